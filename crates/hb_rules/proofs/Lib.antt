@@ -1,0 +1,12 @@
+mod Worked
+pub mod Ranges
+pub mod Copies
+pub mod Hands
+pub mod Rules
+pub mod HandSize
+pub mod Undrawn
+pub mod Touched
+pub mod Heights
+pub mod Decks
+pub mod DeckSize
+pub mod Numbers

@@ -1,0 +1,12 @@
+pub mod Suits
+pub mod Cards
+pub mod Touch
+pub mod Setup
+pub mod Start
+pub mod Hands
+pub mod Result
+pub mod Legality
+pub mod Events
+pub mod Deals
+pub mod Marks
+pub mod Numbers
