@@ -1,0 +1,9 @@
+pub mod Start
+pub mod Fair
+pub mod Emptied
+pub mod Steps
+pub mod Narrow
+pub mod Bounds
+pub mod Acts
+pub mod Views
+pub mod Bits

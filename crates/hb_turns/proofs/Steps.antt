@@ -1,0 +1,216 @@
+-- The table after an act is the table of the longer history.
+use Rattle.std.proofs.Common.{◌≡◌, ℕ, ◌+◌, ◌-◌, ◌*◌, ◌<◌, ◌≤◌, Bool, true, false, cond, List, [], ◌∷◌, refl, ap, arith, sym, ◌∙◌, length, Some, None, Option}
+use Rattle.std.specs.Prelude.{◌==◌, ◌&&◌, nat_lt, if◌then◌else◌, slice_index, slice_index_or, slice_set, count_by}
+use Rattle.std.proofs.lemmas.Grind.{common_steps}
+use Rattle.std.proofs.lemmas.List.{length-set}
+use Rattle.std.proofs.lemmas.List.Sums.{sum_by-cons}
+use Rattle.hb_rules.specs.declared.acts.Act.{Act}
+use Rattle.hb_rules.specs.declared.acts.Action.TheVariants as action
+use Rattle.hb_rules.specs.declared.acts.Clue.{Clue}
+use Rattle.hb_rules.specs.declared.acts.EndHow.{EndHow}
+use Rattle.hb_rules.specs.declared.suits.Identity.{Identity}
+use Rattle.hb_rules.specs.declared.setups.Setup.{Setup}
+use Rattle.hb_rules.specs.Cards.{same_identity, number, identity, has_number, in_range}
+use Rattle.hb_rules.specs.Setup.{card, deal_size}
+use Rattle.hb_rules.specs.Touch.{touches}
+use Rattle.hb_rules.specs.Hands.{removed, holder, is_at, left}
+use Rattle.hb_rules.specs.Result.{height, raised, fits, lost, lost_copies, turns, tokens, strikes, emptied, or_else, called}
+use Rattle.hb_rules.specs.Legality.{Legal}
+use Rattle.hb_rules.specs.Marks.{is_marked, meets, same}
+use Rattle.hb_rules.proofs.Hands.{holder-past}
+use Rattle.hb_rules.proofs.Undrawn.{holder-play, holder-discard}
+use Rattle.hb_sets.specs.Sets.{bit}
+use Rattle.hb_turns.specs.declared.table.Table.{Table}
+use Rattle.hb_turns.specs.Kept.{IsFair, IsTable}
+use Rattle.hb_turns.specs.Steps.{IsCard, IsNarrowed, play_table, discard_table, clue_table, moved, stacked, lost_card, one_more, is_next}
+use Rattle.hb_turns.proofs.Emptied.{emptied-clue, emptied-draw}
+
+-- one more card of an identity
+counts-more : (counts : List ℕ) (orders : List ℕ) (g : Setup) (order s r : ℕ) → length counts ≡ 30 → IsCard g order → s < 6 → r < 5
+    → slice_index counts (s * 5 + r) ≡ count_by (λ k. same_identity (record { suit = s; rank = r + 1 }) (card g k)) orders
+    → slice_index (one_more counts (card g order)) (s * 5 + r) ≡ count_by (λ k. same_identity (record { suit = s; rank = r + 1 }) (card g k)) (order ∷ orders)
+counts-more counts orders g order s r long is_card s_low r_low before = let ok : in_range (card g order) ≡ true = is_card.id in rw sum_by-cons (grind (arith, common_steps))
+
+holders-more : (holders : List (Option ℕ)) (g : Setup) (past : List Act) (who order next count k : ℕ) → length holders ≡ 60 → order < 60 → count ≤ 60 → k < 60
+    → slice_index_or holders k None ≡ holder g past k
+    → slice_index_or (slice_set (if nat_lt next count then slice_set holders next (Some who) else holders) order None) k None
+    ≡ (if order == k then None else (if (if nat_lt next count then next == k else false) then Some who else holder g past k))
+holders-more holders g past who order next count k long order_low count_low k_low before = grind (arith, common_steps, length-set)
+
+holders-long : (holders : List (Option ℕ)) (who order next count : ℕ) → length holders ≡ 60 → length (slice_set (if nat_lt next count then slice_set holders next (Some who) else holders) order None) ≡ 60
+holders-long holders who order next count long = grind (arith, length-set)
+
+stacks-more : (stacks : List ℕ) (g : Setup) (past : List Act) (order s : ℕ) → length stacks ≡ 6 → in_range (card g order) ≡ true → fits g past order ≡ true
+    → ((i : ℕ) → i < 6 → slice_index stacks i ≡ height g past i) → s < 6
+    → slice_index (slice_set stacks (card g order).suit (slice_index stacks (card g order).suit + 1)) s ≡ (if (card g order).suit == s then raised g (card g order) (height g past s) else height g past s)
+stacks-more stacks g past order s long ok fit before s_low =
+    let suit_low : (card g order).suit < 6 = grind arith in
+    let one : slice_index stacks (card g order).suit ≡ height g past (card g order).suit = before (card g order).suit suit_low in
+    let two : slice_index stacks s ≡ height g past s = before s s_low in grind (arith, common_steps)
+
+stacks-same : (h : ℕ) (g : Setup) (past : List Act) (order s : ℕ) → fits g past order ≡ false → h ≡ height g past s
+    → h ≡ (if (card g order).suit == s then raised g (card g order) (height g past s) else height g past s)
+stacks-same h g past order s miss before = grind arith
+
+-- the card is the next of its suit where its play fits
+next-fits : (g : Setup) (past : List Act) (t : Table) (order : ℕ) → IsCard g order → IsTable g past t → is_next t (card g order) ≡ fits g past order
+next-fits g past t order is_card kept =
+    let ok : in_range (card g order) ≡ true = is_card.id in
+    let suit_low : (card g order).suit < 6 = grind arith in
+    ap (λ h. (card g order).rank == h + 1) (kept.stacks (card g order).suit suit_low)
+
+-- the table after a play that fits
+table-fits : (g : Setup) (past : List Act) (t : Table) (who order : ℕ) → IsFair g → Legal g past → called past ≡ None → IsCard g order → IsTable g past t → fits g past order ≡ true
+    → IsTable g (record { who = who; action = action.Play order } ∷ past) (moved g (stacked t (card g order)) who order)
+table-fits g past t who order fair legal uncalled is_card kept fit =
+    let ok : in_range (card g order) ≡ true = is_card.id in
+    let order_low : order < 60 = omega (arith, is_card.below, is_card.long) in
+    let e1 : t.removed ≡ length (removed past) = kept.removed in
+    let e2 : t.turns ≡ turns past = kept.turns in
+    let e3 : t.tokens ≡ tokens g past = kept.tokens in
+    record {
+      many_holders = holders-long t.holders who order (deal_size g + t.removed) (length g.deck.items) kept.many_holders;
+      many_stacks = rw length-set kept.many_stacks;
+      many_lost = kept.many_lost;
+      many_gone = rw length-set kept.many_gone;
+      many_marks = kept.many_marks;
+      holders = λ k low. holders-more t.holders g past who order (deal_size g + t.removed) (length g.deck.items) k kept.many_holders order_low fair.long low (kept.holders k low)
+          ∙ (ap (λ n. if order == k then None else (if (if nat_lt (deal_size g + n) (length g.deck.items) then deal_size g + n == k else false) then Some who else holder g past k)) e1
+          ∙ sym (holder-play g past legal who order k));
+      stacks = λ s low. stacks-more t.stacks g past order s kept.many_stacks ok fit kept.stacks low;
+      lost = λ s r s_low r_low. rw fit (kept.lost s r s_low r_low);
+      gone = λ s r s_low r_low. counts-more t.gone (removed past) g order s r kept.many_gone is_card s_low r_low (kept.gone s r s_low r_low);
+      marks = kept.marks;
+      removed = omega arith;
+      turns = omega arith;
+      tokens = grind arith;
+      strikes = rw fit kept.strikes;
+      emptied = rw (e1, e2, kept.emptied) (sym (emptied-draw g past (turns past + 1) (length (removed (record { who = who; action = action.Play order } ∷ past))) (omega arith)));
+      called = kept.called ∙ uncalled;
+    }
+
+-- the table after a play that does not fit
+table-misses : (g : Setup) (past : List Act) (t : Table) (who order : ℕ) → IsFair g → Legal g past → called past ≡ None → IsCard g order → IsTable g past t → fits g past order ≡ false
+    → IsTable g (record { who = who; action = action.Play order } ∷ past) (moved g (record (lost_card t (card g order)) { strikes = t.strikes + 1 }) who order)
+table-misses g past t who order fair legal uncalled is_card kept miss =
+    let order_low : order < 60 = omega (arith, is_card.below, is_card.long) in
+    let e1 : t.removed ≡ length (removed past) = kept.removed in
+    let e2 : t.turns ≡ turns past = kept.turns in
+    let e3 : t.tokens ≡ tokens g past = kept.tokens in
+    let e4 : t.strikes ≡ strikes g past = kept.strikes in
+    record {
+      many_holders = holders-long t.holders who order (deal_size g + t.removed) (length g.deck.items) kept.many_holders;
+      many_stacks = kept.many_stacks;
+      many_lost = rw length-set kept.many_lost;
+      many_gone = rw length-set kept.many_gone;
+      many_marks = kept.many_marks;
+      holders = λ k low. holders-more t.holders g past who order (deal_size g + t.removed) (length g.deck.items) k kept.many_holders order_low fair.long low (kept.holders k low)
+          ∙ (ap (λ n. if order == k then None else (if (if nat_lt (deal_size g + n) (length g.deck.items) then deal_size g + n == k else false) then Some who else holder g past k)) e1
+          ∙ sym (holder-play g past legal who order k));
+      stacks = λ s low. stacks-same (slice_index t.stacks s) g past order s miss (kept.stacks s low);
+      lost = λ s r s_low r_low. rw miss (counts-more t.lost (lost g past) g order s r kept.many_lost is_card s_low r_low (kept.lost s r s_low r_low));
+      gone = λ s r s_low r_low. counts-more t.gone (removed past) g order s r kept.many_gone is_card s_low r_low (kept.gone s r s_low r_low);
+      marks = kept.marks;
+      removed = omega arith;
+      turns = omega arith;
+      tokens = rw miss kept.tokens;
+      strikes = rw miss (omega arith);
+      emptied = rw (e1, e2, kept.emptied) (sym (emptied-draw g past (turns past + 1) (length (removed (record { who = who; action = action.Play order } ∷ past))) (omega arith)));
+      called = kept.called ∙ uncalled;
+    }
+
+-- the table after a play
+pub table-play : (g : Setup) (past : List Act) (t : Table) (who order : ℕ) → IsFair g → Legal g past → called past ≡ None → IsCard g order → IsTable g past t
+    → IsTable g (record { who = who; action = action.Play order } ∷ past) (play_table g t who order)
+table-play g past t who order fair legal uncalled is_card kept = pick (fits g past order) refl
+  where
+    pick : (b : Bool) → fits g past order ≡ b → IsTable g (record { who = who; action = action.Play order } ∷ past) (play_table g t who order)
+    pick true fit = rw (next-fits g past t order is_card kept ∙ fit) (table-fits g past t who order fair legal uncalled is_card kept fit)
+    pick false miss = rw (next-fits g past t order is_card kept ∙ miss) (table-misses g past t who order fair legal uncalled is_card kept miss)
+
+-- the table after a discard
+pub table-discard : (g : Setup) (past : List Act) (t : Table) (who order : ℕ) → IsFair g → Legal g past → called past ≡ None → IsCard g order → IsTable g past t
+    → IsTable g (record { who = who; action = action.Discard order } ∷ past) (discard_table g t who order)
+table-discard g past t who order fair legal uncalled is_card kept =
+    let order_low : order < 60 = omega (arith, is_card.below, is_card.long) in
+    let e1 : t.removed ≡ length (removed past) = kept.removed in
+    let e2 : t.turns ≡ turns past = kept.turns in
+    let e3 : t.tokens ≡ tokens g past = kept.tokens in
+    record {
+      many_holders = holders-long t.holders who order (deal_size g + t.removed) (length g.deck.items) kept.many_holders;
+      many_stacks = kept.many_stacks;
+      many_lost = rw length-set kept.many_lost;
+      many_gone = rw length-set kept.many_gone;
+      many_marks = kept.many_marks;
+      holders = λ k low. holders-more t.holders g past who order (deal_size g + t.removed) (length g.deck.items) k kept.many_holders order_low fair.long low (kept.holders k low)
+          ∙ (ap (λ n. if order == k then None else (if (if nat_lt (deal_size g + n) (length g.deck.items) then deal_size g + n == k else false) then Some who else holder g past k)) e1
+          ∙ sym (holder-discard g past legal who order k));
+      stacks = kept.stacks;
+      lost = λ s r s_low r_low. counts-more t.lost (lost g past) g order s r kept.many_lost is_card s_low r_low (kept.lost s r s_low r_low);
+      gone = λ s r s_low r_low. counts-more t.gone (removed past) g order s r kept.many_gone is_card s_low r_low (kept.gone s r s_low r_low);
+      marks = kept.marks;
+      removed = omega arith;
+      turns = omega arith;
+      tokens = omega arith;
+      strikes = kept.strikes;
+      emptied = rw (e1, e2, kept.emptied) (sym (emptied-draw g past (turns past + 1) (length (removed (record { who = who; action = action.Discard order } ∷ past))) (omega arith)));
+      called = kept.called ∙ uncalled;
+    }
+
+-- one word narrowed by a clue is that of the longer history
+marked-clue : (old new : Bool) (low at has fits before : Bool) → old ≡ (has && before) → new ≡ (old && (if low && at then has && fits else true)) → (low ≡ false → at ≡ false)
+    → new ≡ (has && ((if at then fits else true) && before))
+marked-clue old new low at has fits before e f h = grind arith
+
+-- the table after a clue
+pub table-clue : (g : Setup) (past : List Act) (t : Table) (who to : ℕ) (clue : Clue) (marks : List ℕ) → IsFair g → called past ≡ None → IsTable g past t
+    → IsNarrowed g t.holders to clue t.marks marks (length g.deck.items)
+    → IsTable g (record { who = who; action = action.Clue to clue } ∷ past) (record (clue_table t) { marks = marks })
+table-clue g past t who to clue marks fair uncalled kept narrowed =
+    let e2 : t.turns ≡ turns past = kept.turns in
+    let e3 : t.tokens ≡ tokens g past = kept.tokens in
+    record {
+      many_holders = kept.many_holders;
+      many_stacks = kept.many_stacks;
+      many_lost = kept.many_lost;
+      many_gone = kept.many_gone;
+      many_marks = narrowed.long ∙ kept.many_marks;
+      holders = kept.holders;
+      stacks = kept.stacks;
+      lost = kept.lost;
+      gone = kept.gone;
+      marks = λ k n low.
+          let here : slice_index_or t.holders k None ≡ holder g past k = kept.holders k low in
+          let nobody : length g.deck.items ≤ k → holder g past k ≡ None = holder-past g past k fair.dealt in
+          let b : (bit (slice_index marks k) n == 1) ≡ ((bit (slice_index t.marks k) n == 1) && (if nat_lt k (length g.deck.items) && is_at (holder g past k) to then has_number g.variant n && same (touches g.variant clue (card g k)) (touches g.variant clue (identity n)) else true)) = rw here at (narrowed.bits k n) in
+          marked-clue (bit (slice_index t.marks k) n == 1) (bit (slice_index marks k) n == 1) (nat_lt k (length g.deck.items)) (is_at (holder g past k) to) (has_number g.variant n) (same (touches g.variant clue (card g k)) (touches g.variant clue (identity n))) (meets g past k (identity n))
+          (kept.marks k n low) b (λ far. grind (arith, nobody));
+      removed = kept.removed;
+      turns = omega arith;
+      tokens = omega arith;
+      strikes = kept.strikes;
+      emptied = kept.emptied ∙ sym (emptied-clue g past (turns past + 1));
+      called = kept.called ∙ uncalled;
+    }
+
+-- the table after a called end
+pub table-end : (g : Setup) (past : List Act) (t : Table) (who : ℕ) (how : EndHow) → IsTable g past t
+    → IsTable g (record { who = who; action = action.End how } ∷ past) (record t { called = Some how })
+table-end g past t who how kept = record {
+  many_holders = kept.many_holders;
+  many_stacks = kept.many_stacks;
+  many_lost = kept.many_lost;
+  many_gone = kept.many_gone;
+  many_marks = kept.many_marks;
+  holders = kept.holders;
+  stacks = kept.stacks;
+  lost = kept.lost;
+  gone = kept.gone;
+  marks = kept.marks;
+  removed = kept.removed;
+  turns = kept.turns;
+  tokens = kept.tokens;
+  strikes = kept.strikes;
+  emptied = kept.emptied ∙ sym (emptied-clue g past (turns past));
+  called = refl;
+}

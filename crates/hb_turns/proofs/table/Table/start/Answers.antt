@@ -1,0 +1,25 @@
+use Rattle.std.proofs.Common.{refl, ◌+◌, ◌*◌, length}
+use Rattle.hb_rules.specs.Cards.{has_number}
+use Rattle.hb_rules.specs.Setup.{deal_size}
+use Rattle.hb_turns.proofs.Start.{zeros, all-marked, start-emptied}
+use Rattle.hb_turns.proofs.table.Table.start.Goals as goal
+
+pub returns : goal.returns
+returns c = record {
+  many_holders = c.dealt.ensures.many;
+  many_stacks = refl;
+  many_lost = refl;
+  many_gone = refl;
+  many_marks = refl;
+  holders = c.dealt.ensures.all;
+  stacks = λ s low. zeros 6 s;
+  lost = λ s r s_low r_low. zeros 30 (s * 5 + r);
+  gone = λ s r s_low r_low. zeros 30 (s * 5 + r);
+  marks = all-marked c.identities-all.result (has_number c.args.setup.now.variant) c.identities-all.ensures;
+  removed = refl;
+  turns = refl;
+  tokens = refl;
+  strikes = refl;
+  emptied = rw (c.then_some.ensures, c.len.ensures.value, c.deal_size.ensures.size) (start-emptied (length c.args.setup.now.deck.items) (deal_size c.args.setup.now));
+  called = refl;
+}
