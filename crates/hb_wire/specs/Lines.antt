@@ -1,0 +1,105 @@
+-- The lines that a viewer reads, as functions of what the viewer is told. The lines are this project's own.
+use Rattle.std.specs.Prelude.{ℕ, ◌+◌, ◌==◌, Bool, List, [], ◌∷◌, ◌++◌, Option, Some, None, codes, filter, flat_map, if◌then◌else◌}
+use Rattle.std.specs.Int.{bit_at}
+use Rattle.std.specs.List.{range_with_len}
+use Rattle.serde_json.specs.Data.{Data, null, boolean, string, object, no_members, member}
+use Rattle.serde_json.specs.Written.{compact_text}
+use Rattle.hb_rules.specs.declared.acts.Clue.{Clue}
+use Rattle.hb_rules.specs.declared.acts.Clue.TheVariants as clue
+use Rattle.hb_rules.specs.declared.acts.EndHow.{EndHow}
+use Rattle.hb_rules.specs.declared.acts.Options.{Options}
+use Rattle.hb_rules.specs.declared.events.Event.{Event}
+use Rattle.hb_rules.specs.declared.events.Event.TheVariants as event
+use Rattle.hb_rules.specs.declared.suits.Identity.{Identity}
+use Rattle.hb_rules.specs.Cards.{in_range}
+use Rattle.hb_rules.specs.Numbers.{end_number}
+use Rattle.hb_json.specs.Values.{whole, wholes_data, texts_data, options_data}
+
+-- a line is a word, one space and compact JSON
+unfoldable pub line : List ℕ → Data → List ℕ
+line word d = word ++ 32 ∷ compact_text d
+
+-- `a1` is rank 1 of suit 0; a pair that is no identity is `?`
+abbrev pub identity_text : Identity → List ℕ
+identity_text id = if in_range id then (97 + id.suit) ∷ (48 + id.rank) ∷ [] else 63 ∷ []
+
+-- identities, one behind the other
+abbrev pub identities_text : List Identity → List ℕ
+identities_text = flat_map identity_text
+
+-- a card that may be left out
+abbrev pub card_data : Option Identity → Data
+card_data None = null
+card_data (Some id) = string (identity_text id)
+
+-- the orders of a set that are below a bound, ascending
+unfoldable pub orders_below : ℕ → ℕ → List ℕ
+orders_below bound set = filter (λ order. bit_at set order == 1) (range_with_len 0 bound)
+
+-- the orders of a set, ascending
+abbrev pub orders_of : ℕ → List ℕ
+orders_of = orders_below 64
+
+-- a seat that may be left out
+abbrev pub seat_data : Option ℕ → Data
+seat_data None = null
+seat_data (Some seat) = whole seat
+
+-- a card that a seat drew or discarded
+abbrev pub drawn_data : Option Identity → ℕ → ℕ → Data
+drawn_data card order seat =
+    object (member (codes "card") (card_data card) (member (codes "order") (whole order) (member (codes "seat") (whole seat) no_members)))
+
+abbrev pub played_data : Identity → Bool → ℕ → ℕ → Data
+played_data card fits order seat =
+    object (member (codes "card") (string (identity_text card)) (member (codes "fits") (boolean fits)
+    (member (codes "order") (whole order) (member (codes "seat") (whole seat) no_members))))
+
+abbrev pub clue_data : ℕ → ℕ → Clue → ℕ → Data
+clue_data giver to (clue.Color index) touched =
+    object (member (codes "color") (whole index) (member (codes "from") (whole giver)
+    (member (codes "to") (whole to) (member (codes "touched") (wholes_data (orders_of touched)) no_members))))
+clue_data giver to (clue.Rank rank) touched =
+    object (member (codes "from") (whole giver) (member (codes "rank") (whole rank)
+    (member (codes "to") (whole to) (member (codes "touched") (wholes_data (orders_of touched)) no_members))))
+
+abbrev pub end_data : EndHow → Option ℕ → ℕ → Data
+end_data how by score =
+    object (member (codes "by") (seat_data by) (member (codes "how") (whole (end_number how)) (member (codes "score") (whole score) no_members)))
+
+abbrev pub deck_data : List Identity → Data
+deck_data cards = object (member (codes "cards") (string (identities_text cards)) no_members)
+
+-- the word of an event's line
+abbrev pub event_word : Event → List ℕ
+event_word (event.Drawn seat order id) = codes "draw"
+event_word (event.Played seat order id fits) = codes "play"
+event_word (event.Discarded seat order id) = codes "discard"
+event_word (event.Clued giver to clue touched) = codes "clue"
+event_word (event.Ended how by score) = codes "end"
+event_word (event.Deck deck) = codes "deck"
+
+-- what an event's line says
+abbrev pub event_data : Event → Data
+event_data (event.Drawn seat order id) = drawn_data id order seat
+event_data (event.Played seat order id fits) = played_data id fits order seat
+event_data (event.Discarded seat order id) = drawn_data (Some id) order seat
+event_data (event.Clued giver to clue touched) = clue_data giver to clue touched
+event_data (event.Ended how by score) = end_data how by score
+event_data (event.Deck deck) = deck_data deck.items
+
+-- the line of an event
+abbrev pub event_line : Event → List ℕ
+event_line e = line (event_word e) (event_data e)
+
+-- each event on a line of its own
+abbrev pub event_lines : List Event → List ℕ
+event_lines = flat_map (λ e. event_line e ++ 10 ∷ [])
+
+-- the line that begins a game: its options, with the variant by its name, and its players
+abbrev pub game_data : List ℕ → Options → List (List ℕ) → Data
+game_data name options players =
+    object (member (codes "options") (options_data name options) (member (codes "players") (texts_data players) no_members))
+
+abbrev pub game_line : List ℕ → Options → List (List ℕ) → List ℕ
+game_line name options players = line (codes "game") (game_data name options players)
