@@ -1,0 +1,79 @@
+-- What the steps of a reading found, where all of them found something.
+use Rattle.std.proofs.Common.{◌≡◌, ℕ, List, Bool, true, false, Result, Ok, Err, Option, None, Some, refl, sym, ◌∙◌}
+use Rattle.std.specs.Prelude.{length}
+use Rattle.hb_rules.specs.declared.suits.Identity.{Identity}
+use Rattle.hb_rules.specs.declared.variants.Variant.{Variant}
+use Rattle.hb_rules.specs.declared.acts.Options.{Options}
+use Rattle.hb_rules.specs.Setup.{Position}
+use Rattle.hb_rules.specs.Start.{are_players, started}
+use Rattle.hb_suits.specs.Names.{variant_of}
+use Rattle.hb_replay.specs.declared.written.WrittenReplay.{WrittenReplay}
+use Rattle.hb_replay.specs.declared.errors.OptName.{OptName}
+use Rattle.hb_replay.specs.declared.errors.ReplayError.{ReplayError}
+use Rattle.hb_replay.specs.declared.errors.ReplayError.TheVariants as fault
+use Rattle.hb_replay.specs.Contents.{notes_fit}
+use Rattle.hb_replay.specs.Refusals.{option_fault, game_options, is_deck, unless_refused, options_for, opening, played, game_in}
+use Rattle.hb_replay.specs.Results.{◌>>=◌, found_or, must}
+
+pub never : {A E : Type 0} (e : E) (x : A) → (let a : Result A E = Err e in a ≡ Ok x) → ⊥
+never e x h = cc
+
+pub same-ok : {A E : Type 0} (x y : A) → (let a : Result A E = Ok x in a ≡ Ok y) → x ≡ y
+same-ok x y h = cc
+
+-- what two steps found, the first one found
+pub step : {A B E P : Type 0} (m : Result A E) (f : A → Result B E) (y : B) → (m >>= f) ≡ Ok y → ((x : A) → m ≡ Ok x → f x ≡ Ok y → P) → P
+step (Ok x) f y h then = then x refl h
+step (Err e) f y h then = absurd (never e y h)
+
+pub must-ok : {E : Type 0} (e : E) (b : Bool) (u : Unit {0}) → must e b ≡ Ok u → b ≡ true
+must-ok e true u h = refl
+must-ok e false u h = absurd (never e u h)
+
+pub found_or-ok : {A E : Type 0} (e : E) (o : Option A) (x : A) → found_or e o ≡ Ok x → o ≡ Some x
+found_or-ok e None x h = absurd (never e x h)
+found_or-ok e (Some y) x h = let same : y ≡ x = same-ok y x h in rw same refl
+
+unless-ok : (o q : Options) (f : Option OptName) → unless_refused o f ≡ Ok q → (f ≡ None) × (q ≡ o)
+unless-ok o q None h = (refl, sym (same-ok o q h))
+unless-ok o q (Some name) h = absurd (never (fault.Option name) q h)
+
+opening-ok : (v : Variant) (o : Options) (n : ℕ) (deck : List Identity) (p : Position) → opening v o n deck ≡ Ok p → (is_deck v deck ≡ true) × (p ≡ started v o n deck)
+opening-ok v o n deck p h = step (must fault.Deck (is_deck v deck)) _ p h (λ u full e. (must-ok fault.Deck (is_deck v deck) u full, sym (same-ok (started v o n deck) p e)))
+
+-- what was found on the way to a game
+pub record Found (w : WrittenReplay) (q : Position) : Type 0 where
+  pub players : are_players (length w.players) ≡ true
+  pub variant : Variant
+  pub named : variant_of w.options.variant ≡ Some variant
+  pub options : option_fault (length w.players) w.options ≡ None
+  pub deck : is_deck variant w.deck ≡ true
+  pub acts : played 0 (started variant (game_options w.options) (length w.players) w.deck) w.actions ≡ Ok q
+  pub notes : notes_fit w.notes ≡ true
+
+pub found : (w : WrittenReplay) (q : Position) → game_in w ≡ Ok q → Found w q
+unfolding game_in options_for
+found w q h =
+    step (must fault.Players (are_players (length w.players))) _ q h (λ u players h0.
+    step (found_or fault.Variant (variant_of w.options.variant)) _ q h0 (λ v named h1.
+    step (unless_refused (game_options w.options) (option_fault (length w.players) w.options)) _ q h1 (λ o allowed h2.
+    step (opening v o (length w.players) w.deck) _ q h2 (λ p opened h3.
+    step (played 0 p w.actions) _ q h3 (λ r acts h4.
+    step (must fault.Notes (notes_fit w.notes)) _ q h4 (λ t notes h5.
+    let options = unless-ok (game_options w.options) o (option_fault (length w.players) w.options) allowed in
+    let start = opening-ok v o (length w.players) w.deck p opened in
+    let first : p ≡ started v (game_options w.options) (length w.players) w.deck = rw (sym options.1) start.1 in
+    let last : r ≡ q = same-ok r q h5 in
+    record {
+      players = must-ok fault.Players (are_players (length w.players)) u players;
+      variant = v;
+      named = found_or-ok fault.Variant (variant_of w.options.variant) v named;
+      options = options.0;
+      deck = start.0;
+      acts = rw (sym first, sym last) acts;
+      notes = must-ok fault.Notes (notes_fit w.notes) t notes;
+    }))))))
+
+pub gives : (w : WrittenReplay) (q : Position) → Found w q → game_in w ≡ Ok q
+unfolding game_in options_for
+gives w q h = rw (h.players, h.named, h.options, h.deck, h.acts, h.notes) refl

@@ -1,0 +1,47 @@
+-- A replay's value holds no float and nests little: its text is exact, and reads back.
+use Rattle.std.proofs.Common.{◌≡◌, ℕ, ◌≤◌, List, Ok, Some, Bool, true, false, refl, arith, sym, ap, subst, ◌∙◌}
+use Rattle.std.specs.Prelude.{codes, not, ◌==◌, length, reverse, IsUtf8}
+use Rattle.serde_json.specs.Read.{read}
+use Rattle.serde_json.specs.Data.{Data, string, no_members, depth}
+use Rattle.serde_json.specs.Written.{has_float, compact_text}
+use Rattle.hb_json.specs.Values.{texts_data, options_data}
+use Rattle.hb_json.proofs.Plain.{IsPlain, plain-put, plain-put_if, none, plain-list, plain-object, lift, plain-texts, plain-options}
+use Rattle.hb_rules.specs.declared.suits.Identity.{Identity}
+use Rattle.hb_rules.specs.declared.acts.Action.{Action}
+use Rattle.hb_rules.specs.declared.acts.Action.TheVariants as action
+use Rattle.hb_rules.specs.declared.acts.Clue.TheVariants as clue
+use Rattle.hb_replay.specs.Contents.{Contents, IsReplay}
+use Rattle.hb_replay.specs.Reading.{ReadsAs, IsReading}
+use Rattle.hb_replay.specs.Canonical.{card_data, action_data, act_data, cards_data, acts_data, notes_data, replay_data, canonical_text}
+use Rattle.hb_replay.proofs.Trip.{replay-back}
+
+plain-card : (id : Identity) → IsPlain 1 (card_data id)
+plain-card id = record { exact = refl; low = omega arith }
+
+plain-action : (who : ℕ) (a : Action) → IsPlain 1 (action_data who a)
+plain-action who (action.Play order) = record { exact = refl; low = omega arith }
+plain-action who (action.Discard order) = record { exact = refl; low = omega arith }
+plain-action who (action.Clue to (clue.Color c)) = record { exact = refl; low = omega arith }
+plain-action who (action.Clue to (clue.Rank r)) = record { exact = refl; low = omega arith }
+plain-action who (action.End how) = record { exact = refl; low = omega arith }
+
+plain-replay : (r : Contents) → IsPlain 3 (replay_data r)
+unfolding replay_data
+plain-replay r = plain-object 2 _
+    (plain-put_if 2 (not (length r.notes == 0)) (codes "notes") (notes_data r.notes) _ (plain-list texts_data 1 plain-texts r.notes)
+    (plain-put 2 (codes "players") (texts_data r.players) _ (lift 1 2 _ (omega arith) (plain-texts r.players))
+    (plain-put 2 (codes "options") (options_data r.name r.game.setup.options) _ (lift 1 2 _ (omega arith) (plain-options r.name r.game.setup.options))
+    (plain-put 2 (codes "deck") (cards_data r.game.setup.deck.items) _ (plain-list card_data 1 plain-card r.game.setup.deck.items)
+    (plain-put 2 (codes "actions") (acts_data (reverse r.game.past)) no_members (plain-list act_data 1 (λ act. plain-action act.who act.action) (reverse r.game.past)) (none 2))))))
+
+-- the bytes that are written for the value are the canonical text
+pub canonical : (r : Contents) (d : Data) (bytes out : List ℕ) → d ≡ replay_data r → (has_float d ≡ false → bytes ≡ compact_text d) → out ≡ bytes → out ≡ canonical_text r
+canonical r d bytes out e text o = let exact : has_float d ≡ false = rw e ((plain-replay r).exact) in o ∙ (text exact ∙ ap compact_text e)
+
+-- and are read as the replay
+pub reads-back : (r : Contents) (d : Data) (bytes out : List ℕ) → IsReplay r → d ≡ replay_data r → IsUtf8 bytes → (depth d ≤ 127 → read bytes ≡ Some d) → out ≡ bytes → IsReading out (Ok r)
+reads-back r d bytes out h e utf8 back o =
+    let low : depth (replay_data r) ≤ 127 = omega (arith, (plain-replay r).low) in
+    let low' : depth d ≤ 127 = rw e low in
+    let P : List ℕ → Type 0 = λ x. ReadsAs x (replay_data r) in
+    (replay_data r, subst P (sym o) (utf8, back low' ∙ ap Some e), replay-back r h)

@@ -1,0 +1,9 @@
+pub mod Results
+pub mod Places
+pub mod Errors
+pub mod Shape
+pub mod Contents
+pub mod Refusals
+pub mod Reading
+pub mod ReplayOf
+pub mod Canonical

@@ -1,0 +1,127 @@
+//! Writing a replay: its JSON value, and the one text of that.
+
+ghost use Rattle.std.specs.Prelude.{◌≡◌, IfOk, Ok};
+ghost use Rattle.serde_json.specs.View.{view};
+ghost use Rattle.hb_replay.specs.Canonical.{card_data, short_data, long_data, act_data, cards_data, acts_data, notes_data, replay_data, canonical_text};
+ghost use Rattle.hb_replay.specs.Reading.{IsReading};
+ghost use Rattle.hb_json.specs.Values.{texts_data};
+
+use crate::replay::Replay;
+use hb_io::{Bytes, Texts};
+use hb_json::{options_value, put_if, texts_value};
+use hb_rules::{Act, Action, Clue, Identity};
+use serde_json::{Map, Value, json, put};
+use std::alloc::{AllocError, Global};
+
+/// A card.
+fn card_value(alloc: Global, id: Identity) -> Result<Value, AllocError>
+    ensures { IfOk result (λ v. view v ≡ card_data id) }
+{
+    json!(in alloc; {"rank": id.rank, "suitIndex": id.suit})
+}
+
+/// An action of type 0 or 1.
+fn short_value(alloc: Global, target: u8, kind: u8) -> Result<Value, AllocError>
+    ensures { IfOk result (λ v. view v ≡ short_data target kind) }
+{
+    json!(in alloc; {"target": target, "type": kind})
+}
+
+/// An action of type 2, 3 or 4.
+fn long_value(alloc: Global, target: u8, kind: u8, value: u8) -> Result<Value, AllocError>
+    ensures { IfOk result (λ v. view v ≡ long_data target kind value) }
+{
+    json!(in alloc; {"target": target, "type": kind, "value": value})
+}
+
+/// An act.
+fn act_value(alloc: Global, act: Act) -> Result<Value, AllocError>
+    ensures { IfOk result (λ v. view v ≡ act_data act) }
+{
+    match act.action {
+        Action::Play { order } => short_value(alloc, order, 0),
+        Action::Discard { order } => short_value(alloc, order, 1),
+        Action::Clue {
+            to,
+            clue: Clue::Color(color),
+        } => long_value(alloc, to, 2, color),
+        Action::Clue {
+            to,
+            clue: Clue::Rank(rank),
+        } => long_value(alloc, to, 3, rank),
+        Action::End { how } => long_value(alloc, act.who, 4, how.number()),
+    }
+}
+
+/// The cards.
+fn cards_value(alloc: Global, cards: &[Identity]) -> Result<Value, AllocError>
+    ensures { IfOk result (λ v. view v ≡ cards_data cards.now) }
+{
+    let mut items = Vec::new(alloc);
+    for card in cards {
+        items.push(card_value(alloc, *card)?)?;
+    }
+    Ok(Value::Array(items))
+}
+
+/// The acts.
+fn acts_value(alloc: Global, acts: &[Act]) -> Result<Value, AllocError>
+    ensures { IfOk result (λ v. view v ≡ acts_data acts.now) }
+{
+    let mut items = Vec::new(alloc);
+    for act in acts {
+        items.push(act_value(alloc, *act)?)?;
+    }
+    Ok(Value::Array(items))
+}
+
+/// A list of notes.
+fn note_list_value(alloc: Global, texts: &Texts) -> Result<Value, AllocError>
+    ensures { IfOk result (λ v. view v ≡ texts_data texts.now) }
+{
+    texts_value(alloc, texts.as_slice())
+}
+
+/// The lists of notes.
+fn notes_value(alloc: Global, lists: &[Texts]) -> Result<Value, AllocError>
+    ensures { IfOk result (λ v. view v ≡ notes_data lists.now) }
+{
+    let mut items = Vec::new(alloc);
+    for texts in lists {
+        items.push(note_list_value(alloc, texts)?)?;
+    }
+    Ok(Value::Array(items))
+}
+
+/// A replay's value.
+#[tactic(auto, unfolding(crate::specs::Canonical::replay_data))]
+fn replay_value(alloc: Global, replay: &Replay) -> Result<Value, AllocError>
+    ensures { IfOk result (λ v. view v ≡ replay_data replay.now) }
+{
+    let mut map = Map::new(alloc);
+    let acts = acts_value(alloc, replay.acts())?;
+    put(&mut map, alloc, "actions", acts)?;
+    let cards = cards_value(alloc, replay.deck())?;
+    put(&mut map, alloc, "deck", cards)?;
+    let options = options_value(alloc, replay.variant_name().as_str(), replay.options())?;
+    put(&mut map, alloc, "options", options)?;
+    let players = texts_value(alloc, replay.players().as_slice())?;
+    put(&mut map, alloc, "players", players)?;
+    let has_notes = !replay.notes().as_slice().is_empty();
+    let notes = notes_value(alloc, replay.notes().as_slice())?;
+    put_if(&mut map, alloc, has_notes, "notes", notes)?;
+    Ok(Value::Object(map))
+}
+
+/// The canonical text of a replay, as bytes: compact JSON with keys in byte order, in which each option stands only where
+/// it is not its default. What is read of it is this replay.
+///
+/// It takes time and memory in proportion to the text.
+pub fn write(alloc: Global, replay: &Replay) -> Result<Bytes, AllocError>
+    ensures text { IfOk result (λ bytes. bytes ≡ canonical_text replay.now) }
+    ensures reads_back { IfOk result (λ bytes. IsReading bytes (Ok replay.now)) }
+{
+    replay.facts();
+    let value = replay_value(alloc, replay)?;
+    Ok(Bytes::from_vec(value.to_vec(alloc)?))
+}
