@@ -1,0 +1,39 @@
+//! The program: its words, and the real source and sinks. All that it does is `hb_cli::run`.
+#![tactic(auto)]
+
+use hb_cli::{Status, report_no_memory, run};
+use hb_io::{StdSink, StdSource};
+use std::alloc::AllocError;
+use std::env;
+use std::process::ExitCode;
+
+fn main(rt: HostRuntime) -> ExitCode {
+    let status = match executed(&rt) {
+        Ok(status) => status,
+        Err(_) => report_no_memory(&mut StdSink::new(rt.stderr())),
+    };
+    ExitCode::from(status.code())
+}
+
+/// The words without the program's name; none where one of them is not UTF-8, which is outside the grammar as well.
+fn arguments(rt: &HostRuntime) -> Result<Vec<String>, AllocError> {
+    let mut words = Vec::new(rt.alloc());
+    if let Ok(args) = env::args(rt) {
+        for word in args.skip(1) {
+            words.push(word)?;
+        }
+    }
+    Ok(words)
+}
+
+fn executed(rt: &HostRuntime) -> Result<Status, AllocError> {
+    let arguments = arguments(rt)?;
+    let mut words = Vec::new(rt.alloc());
+    for word in &arguments {
+        words.push(word.as_str())?;
+    }
+    let mut source = StdSource::new(rt.stdin());
+    let mut out = StdSink::new(rt.stdout());
+    let mut err = StdSink::new(rt.stderr());
+    Ok(run(rt.alloc(), &words, &mut source, &mut out, &mut err))
+}
