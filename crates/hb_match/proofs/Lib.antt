@@ -1,0 +1,11 @@
+pub mod Uses
+pub mod Copies
+pub mod Moves
+pub mod Gather
+pub mod Sums
+pub mod Weights
+pub mod Hall
+pub mod Exchanged
+pub mod Growth
+pub mod Reach
+pub mod Sets
