@@ -1,0 +1,4 @@
+pub mod Banks
+pub mod Calls
+pub mod Clock
+pub mod Timer
