@@ -1,0 +1,17 @@
+//! What a turnstile guards.
+
+/// A state that takes one call at a time.
+pub trait Machine: Drop {
+    /// What the machine is asked.
+    type Call;
+
+    /// What it answers. Where a turn needs memory, the want of it is one of the replies.
+    type Reply;
+
+    // What one turn may do: of the machine before it, the call, the reply, and the machine after it.
+    ghost turns: { Self → Self.Call → Self.Reply → Self → Type 0 };
+
+    /// Takes one turn: answers the call, and changes the state as `turns` says.
+    fn turn(&mut self, call: &Self::Call) -> Self::Reply
+        ensures { turns self.old call.now result self.new };
+}
