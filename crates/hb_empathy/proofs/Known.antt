@@ -1,0 +1,143 @@
+-- Exact sets: of cards that the blind set sees, of every card after the end, and of hidden cards by what a matching finds.
+use Rattle.std.proofs.Common.{◌≡◌, ◌≢◌, ℕ, ◌+◌, ◌-◌, ◌*◌, ◌/◌, ◌%◌, ◌<◌, ◌≤◌, ◌↔◌, ◌⊎◌, inl, inr, Bool, true, false, List, [], ◌∷◌, refl, ap, arith, sym, ◌∙◌, length, Some, None, Option, subst}
+use Rattle.std.specs.Prelude.{◌==◌, ◌&&◌, ◌||◌, not, nat_le, nat_lt, is_some, slice_index, slice_index_or, if◌then◌else◌, IsTrue, IsNone, IsSome}
+use Rattle.std.proofs.lemmas.Bool.{cases_lt}
+use Rattle.std.proofs.lemmas.List.{get_or_past}
+use Rattle.hb_rules.specs.declared.acts.Act.{Act}
+use Rattle.hb_rules.specs.declared.acts.Options.{Options}
+use Rattle.hb_rules.specs.declared.events.Event.{Event}
+use Rattle.hb_rules.specs.declared.setups.Setup.{Setup}
+use Rattle.hb_rules.specs.declared.suits.Identity.{Identity}
+use Rattle.hb_rules.specs.declared.variants.Variant.{Variant}
+use Rattle.hb_rules.specs.Cards.{IsDeck, identity, number, in_range}
+use Rattle.hb_rules.specs.Setup.{card, deal_size, with_deck, Position}
+use Rattle.hb_rules.specs.Hands.{receiver, holder, is_gone}
+use Rattle.hb_rules.specs.Result.{ended}
+use Rattle.hb_rules.specs.Legality.{Legal}
+use Rattle.hb_rules.specs.Events.{observation, acts_of, in_blind}
+use Rattle.hb_rules.specs.Deals.{IsPossible}
+use Rattle.hb_rules.specs.Marks.{is_hidden, hides_from, hidden}
+use Rattle.hb_rules.proofs.Decks.{length-same}
+use Rattle.hb_rules.proofs.DeckSize.{deck-card}
+use Rattle.hb_rules.proofs.Hands.{holder-past}
+use Rattle.hb_rules.proofs.Numbers.{identity-number, number-identity}
+use Rattle.hb_sets.specs.Sets.{Has}
+use Rattle.hb_match.specs.Matching.{Possible}
+use Rattle.hb_turns.specs.Kept.{IsFair}
+use Rattle.hb_empathy.specs.Exact.{IsExact, IsExactFor, IsOnly}
+use Rattle.hb_empathy.proofs.Acts.{acts_of-observation}
+use Rattle.hb_empathy.proofs.Replays.{with_cards, Replays}
+use Rattle.hb_empathy.proofs.Observed.{Shown, observation-replays}
+use Rattle.hb_empathy.proofs.Choices.{Runs, own-deal}
+use Rattle.hb_empathy.proofs.Ended.{one-deal}
+use Rattle.hb_empathy.proofs.Places.{place}
+use Rattle.hb_empathy.proofs.Assigned.{IsAsked, assigned-possible}
+
+-- a game that has not ended runs
+pub game-runs : (g : Setup) (past : List Act) → IsFair g → Legal g past → IsNone (ended g past) → Runs g past
+game-runs g past fair legal none = record { full = fair.full; dealt = fair.dealt; legal = legal; runs = none }
+
+-- an order that is held is one of the deck's
+pub held-low : (g : Setup) (past : List Act) (order : ℕ) → IsFair g → IsSome (holder g past order) → order < length g.deck.items
+held-low g past order fair held = let none : length g.deck.items ≤ order → holder g past order ≡ None = holder-past g past order fair.dealt in grind (arith, none)
+
+-- and its card is one of the variant's
+pub held-card : (g : Setup) (past : List Act) (order : ℕ) → IsFair g → IsSome (holder g past order) → IsTrue (in_range (card g order))
+held-card g past order fair held = deck-card g.variant g.deck.items fair.full order (record { suit = 0; rank = 0 }) (held-low g past order fair held)
+
+-- only identities with a number below 30 are possible
+possible-low : (blind : ℕ) (v : Variant) (o : Options) (players : ℕ) (seen : List Event) (order n : ℕ) → IsPossible blind v o players seen order (identity n) → n < 30
+possible-low blind v o players seen order n p = pick (cases_lt order (length p.deck))
+  where
+    pick : (order < length p.deck) ⊎ (length p.deck ≤ order) → n < 30
+    pick (inl low) =
+        let r : in_range (card (with_deck v o players p.deck) order) ≡ true = deck-card v p.deck p.deal.full order (record { suit = 0; rank = 0 }) low in
+        let s : in_range (identity n) ≡ true = subst (λ id. in_range id ≡ true) p.is r in
+        let t : n / 5 < 6 = grind arith in omega arith
+    pick (inr far) =
+        let e : card (with_deck v o players p.deck) order ≡ record { suit = 0; rank = 0 } = get_or_past p.deck order (record { suit = 0; rank = 0 }) far in
+        let r : n % 5 + 1 ≡ 0 = ap (λ (id : Identity). id.rank) (sym p.is ∙ e) in absurd (omega arith)
+
+-- a seat whose cards are not known is blind
+pub not-known : (over blind : Bool) → (over || not blind) ≡ false → blind ≡ true
+not-known over blind h = grind arith
+
+-- a set is exact where it has the number of each possible identity
+exact-from : (blind : ℕ) (v : Variant) (o : Options) (players : ℕ) (seen : List Event) (order set : ℕ)
+    → ((n : ℕ) → Has set n ↔ IsPossible blind v o players seen order (identity n)) → IsExact blind v o players seen order set
+exact-from blind v o players seen order set each = record {
+  possible = λ n low. each n;
+  rest = λ n far has. (let low : n < 30 = possible-low blind v o players seen order n ((each n).0 has) in omega arith);
+}
+
+-- the game's own card is possible
+own-possible : (blind : ℕ) (g : Setup) (past : List Act) (order : ℕ) (id : Identity) → IsDeck g.variant g.deck.items → Legal g past → id ≡ card g order
+    → IsPossible blind g.variant g.options g.players (observation blind g past) order id
+own-possible blind g past order id full legal is = record { deck = g.deck.items; deal = own-deal blind g past full legal; is = sym is }
+
+-- the card is known: no other identity is possible for it
+abbrev pub IsKnown : ℕ → Setup → List Act → ℕ → Type 0
+IsKnown blind g past order = (id : Identity) → IsPossible blind g.variant g.options g.players (observation blind g past) order id → id ≡ card g order
+
+receives : (g : Setup) (past : List Act) (order seat : ℕ) → holder g past order ≡ Some seat → receiver g past order ≡ Some seat
+receives g past order seat here = pick (is_gone past order) here
+  where
+    pick : (b : Bool) → (if b then None else receiver g past order) ≡ Some seat → receiver g past order ≡ Some seat
+    pick true h = cc
+    pick false h = h
+
+-- a card of a seat outside the blind set is known while the game runs
+known-open : (blind : ℕ) (g : Setup) (past : List Act) (order seat : ℕ) → Runs g past → holder g past order ≡ Some seat → in_blind blind seat ≡ false → IsKnown blind g past order
+known-open blind g past order seat r here open_seat id p =
+    let long : length p.deck ≡ length g.deck.items = length-same p.deck g.deck.items (λ x. p.deal.full x ∙ sym (r.full x)) in
+    let acts : acts_of (observation blind g past) ≡ past = acts_of-observation blind g past in
+    let legal' : Legal (with_cards g p.deck) past = subst (λ A. Legal (with_cards g p.deck) A) acts p.deal.legal in
+    let same_events : observation blind (with_cards g p.deck) past ≡ observation blind g past = subst (λ A. observation blind (with_cards g p.deck) A ≡ observation blind g past) acts p.deal.same in
+    let both : Replays g past p.deck × Shown blind g past p.deck = observation-replays blind g past p.deck long r.dealt r.legal legal' r.runs same_events in
+    sym p.is ∙ both.1 order seat (receives g past order seat here) open_seat
+
+-- every card is known after the end
+known-over : (blind : ℕ) (g : Setup) (past : List Act) (order : ℕ) → IsFair g → Legal g past → is_some (ended g past) ≡ true → IsKnown blind g past order
+known-over blind g past order fair legal over id p =
+    let e : p.deck ≡ g.deck.items = (one-deal blind g past fair.two fair.full legal over p.deck).0 p.deal in
+    sym p.is ∙ ap (λ d. card (with_deck g.variant g.options g.players d) order) e
+
+-- the cards of a seat are known after the end, and where the blind set does not have the seat
+pub known : (blind : ℕ) (g : Setup) (past : List Act) (order seat : ℕ) → IsFair g → Legal g past → holder g past order ≡ Some seat
+    → (is_some (ended g past) || not (in_blind blind seat)) ≡ true → IsKnown blind g past order
+known blind g past order seat fair legal here shown = pick (is_some (ended g past)) refl shown
+  where
+    pick : (b : Bool) → is_some (ended g past) ≡ b → (b || not (in_blind blind seat)) ≡ true → IsKnown blind g past order
+    pick true over h = known-over blind g past order fair legal over
+    pick false runs h = known-open blind g past order seat (record { full = fair.full; dealt = fair.dealt; legal = legal; runs = runs }) here (grind arith)
+
+ranged : (id : Identity) → IsTrue (in_range id) → (1 ≤ id.rank) × (id.rank < 6)
+ranged id h = let e : in_range id ≡ true = h in (grind arith, grind arith)
+
+-- the set of a known card's number is exact
+pub known-exact : (blind : ℕ) (g : Setup) (past : List Act) (order set : ℕ) → IsFair g → Legal g past → IsTrue (in_range (card g order)) → IsKnown blind g past order
+    → IsOnly set (number (card g order)) → IsExactFor blind (record { setup = g; past = past }) order set
+known-exact blind g past order set fair legal in_variant only_card only =
+    let r : (1 ≤ (card g order).rank) × ((card g order).rank < 6) = ranged (card g order) in_variant in
+    exact-from blind g.variant g.options g.players (observation blind g past) order set (λ n. (
+      λ has. own-possible blind g past order (identity n) fair.full legal (ap identity ((only n).0 has) ∙ identity-number (card g order) r.0 r.1),
+      λ p. (only n).1 (sym (number-identity n) ∙ ap number (only_card (identity n) p)),
+    ))
+
+-- an exact set has the card's own number
+pub own-has : (blind : ℕ) (g : Setup) (past : List Act) (order set : ℕ) → IsFair g → Legal g past → IsTrue (in_range (card g order))
+    → IsExactFor blind (record { setup = g; past = past }) order set → Has set (number (card g order))
+own-has blind g past order set fair legal in_variant exact =
+    let r : (1 ≤ (card g order).rank) × ((card g order).rank < 6) = ranged (card g order) in_variant in
+    let p : IsPossible blind g.variant g.options g.players (observation blind g past) order (identity (number (card g order))) =
+    own-possible blind g past order (identity (number (card g order))) fair.full legal (identity-number (card g order) r.0 r.1) in
+    (exact.possible (number (card g order)) (possible-low blind g.variant g.options g.players (observation blind g past) order (number (card g order)) p)).1 p
+
+-- what a matching finds for a hidden order is exact
+pub found-exact : (blind : ℕ) (g : Setup) (past : List Act) (marks left : List ℕ) (order set : ℕ) → IsAsked blind g past marks left → is_hidden blind g past order ≡ true
+    → ((n : ℕ) → Has set n ↔ Possible marks left (place (hidden blind g past) order) n) → IsExactFor blind (record { setup = g; past = past }) order set
+found-exact blind g past marks left order set asked hid found =
+    exact-from blind g.variant g.options g.players (observation blind g past) order set (λ n. (
+      λ has. (assigned-possible blind g past marks left order asked hid n).0 ((found n).0 has),
+      λ p. (found n).1 ((assigned-possible blind g past marks left order asked hid n).1 p),
+    ))

@@ -1,0 +1,13 @@
+pub mod Acts
+pub mod Replays
+pub mod Observed
+pub mod Choices
+pub mod Beginning
+pub mod Ended
+pub mod Places
+pub mod Seen
+pub mod Assigned
+pub mod Known
+pub mod Loops
+pub mod Hands
+pub mod Listed

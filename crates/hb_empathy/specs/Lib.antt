@@ -1,0 +1,4 @@
+pub mod Exact
+pub mod Listed
+pub mod Laws
+pub mod Unseen
