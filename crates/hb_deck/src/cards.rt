@@ -1,12 +1,13 @@
 //! All cards of a variant in order.
 
-ghost use Rattle.std.specs.Prelude.{◌≡◌, ◌<◌, ◌≤◌, ◌++◌, IfOk, IsTrue, OnOk, replicate};
-ghost use Rattle.hb_rules.specs.Cards.{cards, copies, in_range, suit_cards};
+ghost use Rattle.std.specs.Prelude.{◌≡◌, ◌<◌, ◌++◌, IfOk, OnOk, replicate};
+ghost use Rattle.hb_rules.specs.Cards.{cards, copies, suit_cards};
 
 use hb_rules::{HIGHEST_RANK, Identity, MOST_SUITS, Variant};
 use hb_suits::copies;
 use std::alloc::{AllocError, Global};
 
+/// Adds each copy of the identity.
 fn push_copies(list: &mut Vec<Identity>, variant: &Variant, id: Identity) -> Result<(), AllocError>
     ensures { OnOk result (list.new.items ≡ list.old.items ++ replicate (copies variant.now id) id) }
 {
@@ -16,6 +17,7 @@ fn push_copies(list: &mut Vec<Identity>, variant: &Variant, id: Identity) -> Res
     Ok(())
 }
 
+/// Adds the cards of the suit with this index, by rank.
 fn push_suit(list: &mut Vec<Identity>, variant: &Variant, suit: u8) -> Result<(), AllocError>
     requires { suit < 6 }
     ensures { OnOk result (list.new.items ≡ list.old.items ++ suit_cards variant.now suit) }

@@ -9,7 +9,7 @@ use hb_rules::{IDENTITIES, Identity, Variant};
 use hb_suits::{copies, identity};
 use std::marker::Model;
 
-/// Cards from the first that is dealt to the last. A contract sees the list of the cards.
+/// A list of cards, from the first that is dealt to the last. A contract sees the list.
 #[derive(Drop, Debug)]
 pub struct Deck {
     cards: Vec<Identity>,
@@ -22,14 +22,14 @@ impl Model for Deck {
 }
 
 impl Deck {
-    /// The cards.
+    /// The cards, as a slice.
     pub fn as_slice(&self) -> &[Identity]
         ensures { result.now ≡ self.now }
     {
         &self.cards
     }
 
-    /// The cards, which take no copy.
+    /// The cards, as a vector. It takes no memory.
     pub fn into_vec(self) -> Vec<Identity>
         ensures { result.items ≡ self }
     {
@@ -37,6 +37,7 @@ impl Deck {
     }
 }
 
+/// The cards of a vector. It takes no memory.
 impl From<Vec<Identity>> for Deck {
     ghost from_gives = { λ cards deck. deck ≡ cards.items };
 
@@ -45,6 +46,7 @@ impl From<Vec<Identity>> for Deck {
     }
 }
 
+/// How often the identity stands among the cards.
 fn count_of(id: Identity, cards: &[Identity]) -> usize
     ensures { result ≡ count_of id cards.now }
 {
@@ -61,7 +63,8 @@ fn are_in_variant(variant: &Variant, cards: &[Identity]) -> bool
 /// Whether the identity with a number stands among the cards as often as the variant has copies of it.
 fn is_complete(variant: &Variant, cards: &[Identity], number: u8) -> bool
     requires { number < IDENTITIES }
-    ensures { IsTrue result ↔ (count_of (identity number) cards.now ≡ copies variant.now (identity number)) }
+    ensures { IsTrue result
+        ↔ (count_of (identity number) cards.now ≡ copies variant.now (identity number)) }
 {
     let Some(id) = identity(number) else {
         return false;
@@ -71,7 +74,8 @@ fn is_complete(variant: &Variant, cards: &[Identity], number: u8) -> bool
 
 /// Whether each identity stands among the cards as often as the variant has copies of it.
 fn are_complete(variant: &Variant, cards: &[Identity]) -> bool
-    ensures { IsTrue result ↔ ((n : ℕ) → n < IDENTITIES → count_of (identity n) cards.now ≡ copies variant.now (identity n)) }
+    ensures { IsTrue result ↔ ((n : ℕ) → n < IDENTITIES
+        → count_of (identity n) cards.now ≡ copies variant.now (identity n)) }
 {
     for number in 0..IDENTITIES as u8 {
         if !is_complete(variant, cards, number) {
@@ -81,8 +85,8 @@ fn are_complete(variant: &Variant, cards: &[Identity]) -> bool
     true
 }
 
-/// Whether the cards are a deck of the variant, in any order: each identity stands among them as often as the variant has copies
-/// of it, and nothing else does. It takes no memory.
+/// Whether the cards are a deck of the variant, in any order: each identity stands among them as often as the variant has
+/// copies of it, and nothing else does. It takes no memory.
 pub fn is_deck(variant: &Variant, deck: &[Identity]) -> bool
     ensures { IsTrue result ↔ IsDeck variant.now deck.now }
 {

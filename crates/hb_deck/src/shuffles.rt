@@ -12,13 +12,15 @@ use rand_chacha::ChaCha20Rng;
 use rand_core::SeedableRng;
 use std::alloc::{AllocError, Global};
 
+/// All cards of the variant in the order that the seed and the stream give.
 fn shuffled_cards(
     alloc: Global,
     variant: &Variant,
     seed: &[u8; 32],
     stream: u64,
 ) -> Result<Vec<Identity>, AllocError>
-    ensures drawn { IfOk result (λ list. list.items ≡ shuffle_of (cards variant.now) seed.now stream) }
+    ensures drawn { IfOk result
+        (λ list. list.items ≡ shuffle_of (cards variant.now) seed.now stream) }
     ensures permutation { IfOk result (λ list. IsPermutation (cards variant.now) list.items) }
 {
     let mut list = all_cards(alloc, variant)?;

@@ -1,5 +1,5 @@
 -- Copies that are left: a chosen identity has some, and the loop of `left_over` takes the chosen ones away.
-use Rattle.std.proofs.Common.{◌≡◌, ◌≢◌, ℕ, ◌+◌, ◌-◌, ◌<◌, ◌≤◌, ⊎_elim, List, length, get_or, set, take, get_or-set_same, get_or-set_other, sym, arith}
+use Rattle.std.proofs.Common.{◌≡◌, ◌≢◌, ℕ, ◌+◌, ◌-◌, ◌<◌, ⊎_elim, List, length, get_or, set, take, get_or-set_same, get_or-set_other, sym, arith}
 use Rattle.std.proofs.lemmas.Bool.{cases_eq, cases_lt}
 use Rattle.std.proofs.lemmas.List.{get_or_past}
 use Rattle.hb_match.specs.Matching.{uses, IsEnough}

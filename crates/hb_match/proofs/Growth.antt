@@ -1,5 +1,5 @@
 -- The loops that grow the set of identities that a card can be given.
-use Rattle.std.proofs.Common.{Bool, true, false, Option, Some, None, ◌≡◌, ◌≢◌, ℕ, ◌+◌, ◌^◌, ◌<◌, ◌≤◌, ◌↔◌, ⊎_elim, List, length, slice_index, sym, ◌∙◌, ap, subst, arith}
+use Rattle.std.proofs.Common.{true, false, Option, Some, None, ◌≡◌, ◌≢◌, ℕ, ◌+◌, ◌^◌, ◌<◌, ◌≤◌, ◌↔◌, ⊎_elim, List, length, slice_index, sym, ap, subst, arith}
 use Rattle.std.proofs.lemmas.Bool.{cases_eq}
 use Rattle.std.specs.Option.{MatchOption, is_some}
 use Rattle.hb_sets.specs.Sets.{bit, Has, IsDisjoint, IsLeastCommon}

@@ -1,10 +1,9 @@
 -- The sets of possible identities: where there is no assignment they are empty, and no other set is exact.
-use Rattle.std.proofs.Common.{◌≡◌, ◌≢◌, ℕ, ◌+◌, ◌<◌, ◌↔◌, [], ◌∷◌, ◌++◌, ⊎_elim, List, length, get_or, sym, arith}
+use Rattle.std.proofs.Common.{◌≡◌, ◌≢◌, ℕ, ◌+◌, ◌<◌, [], ◌∷◌, ◌++◌, ⊎_elim, List, length, get_or, arith}
 use Rattle.std.proofs.lemmas.Bool.{cases_eq}
 use Rattle.std.proofs.lemmas.Grind.{common_steps}
 use Rattle.std.proofs.lemmas.List.Elements.{All-from_get_or}
 use Rattle.std.specs.List.{All}
-use Rattle.hb_sets.specs.Sets.{Has}
 use Rattle.hb_sets.proofs.Bits.{bit-zero, same_sets, no_members}
 use Rattle.hb_match.specs.Matching.{NoAssignment, IsPossibleSet}
 

@@ -2,7 +2,11 @@
 #![tactic(auto)]
 
 #[cfg(test)]
+mod cards;
+#[cfg(test)]
 mod commands;
+#[cfg(test)]
+mod empathy;
 #[cfg(test)]
 mod io;
 #[cfg(test)]

@@ -1,5 +1,5 @@
--- Banks of time, defined on what a timer was made with and the calls that it accepted since, the newest first.
--- Times and moments are in milliseconds.
+-- Banks of time, defined on what a timer was made with and the calls that it accepted since, of which
+-- a list has the newest first. Times and moments are in milliseconds. The rules are this project's own.
 use Rattle.std.specs.Prelude.{◌≡◌, ℕ, zero, suc, ◌+◌, ◌-◌, ◌%◌, ◌≤◌, ◌==◌, ◌↔◌, min, max, Bool, true, false, ◌&&◌, if◌then◌else◌, Option, Some, None, List, [], ◌∷◌}
 use Rattle.std.specs.Option.{ForSome}
 use Rattle.hb_timer.specs.declared.timing.TheConstants.{BANK_LIMIT}
@@ -88,10 +88,11 @@ deadline timing calls =
     let now = effective timing calls in
     if is_running calls then Some (now + bank timing calls (turn_seat timing calls) now) else None
 
--- from the newest call on, the bank of the present turn's seat is 0 at just the moments from this one on
+-- of the moments from the newest call on, the running bank is 0 at exactly those from this one on
 abbrev pub RunsOutAt : Timing → List TimerCall → ℕ → Type 0
 RunsOutAt timing calls end =
-    (moment : ℕ) → effective timing calls ≤ moment → (bank timing calls (turn_seat timing calls) moment ≡ 0) ↔ (end ≤ moment)
+    (moment : ℕ) → effective timing calls ≤ moment
+    → (bank timing calls (turn_seat timing calls) moment ≡ 0) ↔ (end ≤ moment)
 
 -- the moment is not past the deadline, where there is one
 abbrev pub IsOnTime : Timing → List TimerCall → ℕ → Type 0

@@ -1,16 +1,18 @@
 //! Clues: which of them a variant offers, and which cards a clue touches.
 //!
-//! `touches` is the touch table of `hb_rules`, row by row; `mask` gives the variant's identities that a clue touches, or
-//! those that it does not, as one set. No call takes memory.
+//! Each contract gives the exact answer of the definitions in `hb_rules`, where the touch table stands row by row: `offers` says
+//! whether a variant has a clue, `touches` whether the clue touches a card of an identity, and `mask` which of the variant's
+//! identities it touches, or which it does not, as one set. The table is this project's own. No call takes memory.
 #![tactic(auto)]
 
-ghost use Rattle.std.specs.Prelude.{◌≡◌, ℕ, ◌<◌, ◌≤◌, IsTrue, ◌==◌, ◌&&◌, slice_index_or};
+ghost use Rattle.std.specs.Prelude.{◌≡◌, ℕ, ◌≤◌, ◌==◌, ◌&&◌, IsTrue};
 ghost use Rattle.hb_rules.specs.Cards.{suit_at, identity, has_number};
 ghost use Rattle.hb_rules.specs.Marks.{same};
 ghost use Rattle.hb_rules.specs.Touch.{colors, offers, touches, suit_kind, hides_rank, hides_special, color_touches, rank_touches, row_of};
 ghost use Rattle.hb_sets.specs.Sets.{bit};
 
 pub use hb_rules::Clue;
+use hb_rules::{HIGHEST_RANK, IDENTITIES};
 use hb_sets::with;
 use hb_suits::{
     Identity, Kind, Special, Variant, color_suits, colors, copies, identity, kind_of, suit_at,
@@ -30,14 +32,15 @@ fn hides_special(special: Option<Special>, rank: u8) -> bool
     special.is_some_and(|special| special.rank == rank && hides_rank(special.kind))
 }
 
-/// Whether the variant has the clue: a colour clue names one of its clue colours, and a rank clue a rank of 1 to 5,
-/// without the special rank where its kind is Pink, Brown, Omni or Null.
+/// Whether the variant has the clue: a colour clue names one of its clue colours by index, and a rank clue a rank of 1 to 5,
+/// but not the special rank where its kind is Pink, Brown, Omni or Null (this project's own).
 pub fn offers(variant: &Variant, clue: Clue) -> bool
     ensures { result ≡ offers variant.now clue }
 {
     match clue {
         Clue::Color(color) => color < colors(variant),
-        Clue::Rank(rank) => (1..=5).contains(&rank) && !hides_special(variant.special, rank),
+        Clue::Rank(rank) => (1..=HIGHEST_RANK).contains(&rank)
+            && !hides_special(variant.special, rank),
     }
 }
 
@@ -61,8 +64,8 @@ fn row_of(special: Option<Special>, own: Kind, rank: u8) -> Kind
     }
 }
 
-/// Whether a colour clue touches a card with this row of the table. `own` says that the colour is that of the card's suit, and
-/// `turn` that it is the one whose turn the card's rank is.
+/// Whether a colour clue touches a card with this row of the table. `own` says that it is the colour of the card's suit, and
+/// `turn` that its index is the card's rank minus one, modulo the number of clue colours.
 fn color_touches(row: Kind, own: bool, turn: bool) -> bool
     ensures { result ≡ color_touches row own turn }
 {
@@ -103,7 +106,8 @@ fn touches_by(variant: &Variant, clue_colors: &[u8], clue: Clue, id: Identity) -
     }
 }
 
-/// Whether the clue touches a card of the identity, by the touch table. A rank of 0 is no card.
+/// Whether the clue touches a card of the identity, by the touch table (this project's own). The variant offers the clue,
+/// and the rank is not 0.
 pub fn touches(variant: &Variant, clue: Clue, id: Identity) -> bool
     requires offered { IsTrue (offers variant.now clue) }
     requires ranked { 1 ≤ id.rank }
@@ -117,7 +121,8 @@ pub fn touches(variant: &Variant, clue: Clue, id: Identity) -> bool
 fn is_in_mask(variant: &Variant, clue_colors: &[u8], clue: Clue, touched: bool, number: u8) -> bool
     requires colors { clue_colors.now ≡ colors variant.now }
     requires offered { IsTrue (offers variant.now clue) }
-    ensures { result ≡ (has_number variant.now number && same touched (touches variant.now clue (identity number))) }
+    ensures { result ≡ (has_number variant.now number
+        && same touched (touches variant.now clue (identity number))) }
 {
     let Some(id) = identity(number) else {
         return false;
@@ -125,15 +130,17 @@ fn is_in_mask(variant: &Variant, clue_colors: &[u8], clue: Clue, touched: bool, 
     copies(variant, id) > 0 && touches_by(variant, clue_colors, clue, id) == touched
 }
 
-/// The variant's identities that the clue touches, or with `touched` false those that it does not, as bits by number.
+/// The set of the variant's identities that the clue touches, or with `touched` false of those that it does not touch: bit
+/// `n` stands for the identity with number `n`. The variant offers the clue.
 #[tactic(auto, using(hb_rules::proofs::Numbers::has_number_low))]
 pub fn mask(variant: &Variant, clue: Clue, touched: bool) -> u64
     requires { IsTrue (offers variant.now clue) }
-    ensures { (n : ℕ) → (bit result n == 1) ≡ (has_number variant.now n && same touched (touches variant.now clue (identity n))) }
+    ensures { (n : ℕ) → (bit result n == 1)
+        ≡ (has_number variant.now n && same touched (touches variant.now clue (identity n))) }
 {
     let clue_colors = color_suits(variant);
     let mut set = 0;
-    for number in 0..30 {
+    for number in 0..IDENTITIES as u8 {
         if is_in_mask(variant, &clue_colors, clue, touched, number) {
             set = with(set, number);
         }

@@ -13,11 +13,11 @@ use Rattle.hb_rules.specs.Setup.{card}
 use Rattle.hb_rules.specs.Hands.{holder, is_at}
 use Rattle.hb_rules.specs.Result.{ended, called}
 use Rattle.hb_rules.specs.Legality.{rule, Legal}
-use Rattle.hb_rules.proofs.Hands.{holder-past}
 use Rattle.hb_rules.proofs.Rules.{may_play, may_discard, may_runs}
 use Rattle.hb_turns.specs.declared.table.Table.{Table}
 use Rattle.hb_turns.specs.Kept.{IsFair, IsTable, IsGame}
 use Rattle.hb_turns.specs.Steps.{HasRoom, IsCard, IsNarrowed, play_table, discard_table, clue_table}
+use Rattle.hb_turns.proofs.Fair.{held-below}
 use Rattle.hb_turns.proofs.Bounds.{has-room, few-acts, not-called}
 use Rattle.hb_turns.proofs.Steps.{table-play, table-discard, table-clue, table-end}
 
@@ -27,6 +27,7 @@ pub record IsReady (past : List Act) (t : Table) : Type 0 where
   pub counts : HasRoom t
   pub uncalled : called past ≡ None
 
+-- an act that breaks no rule finds the room that it needs
 pub ready : (g : Setup) (past : List Act) (t : Table) (who : ℕ) (act : Action) → IsGame g past t → rule g past (record { who = who; action = act }) ≡ None → IsReady past t
 ready g past t who act game may =
     let runs : is_some (ended g past) ≡ false = may_runs g past who act may in
@@ -36,13 +37,14 @@ ready g past t who act game may =
 in-range : (suit rank : ℕ) → suit < 6 → 1 ≤ rank → rank < 6 → (nat_lt suit 6 && nat_le 1 rank && nat_lt rank 6) ≡ true
 in-range suit rank a b c = grind arith
 
--- an order that is held is a card of the deck
+-- an order that a seat holds is a card of the deck
 held-card : (g : Setup) (past : List Act) (who order : ℕ) → IsFair g → is_at (holder g past order) who ≡ true → IsCard g order
 held-card g past who order fair held =
-    let nobody : length g.deck.items ≤ order → holder g past order ≡ None = holder-past g past order fair.dealt in
-    let below : order < length g.deck.items = grind (arith, nobody) in
+    let some : is_some (holder g past order) ≡ true = grind arith in
+    let below : order < length g.deck.items = held-below g past order fair some in
     record { long = fair.long; below = below; id = in-range (card g order).suit (card g order).rank (fair.suits order below) (fair.ranks order below).0 (fair.ranks order below).1 }
 
+-- what is played or discarded is a card of the deck
 pub play-card : (g : Setup) (past : List Act) (t : Table) (who order : ℕ) → IsGame g past t → rule g past (record { who = who; action = action.Play order }) ≡ None → IsCard g order
 play-card g past t who order game may = held-card g past who order game.fair (may_play g past who order may).held
 

@@ -1,4 +1,4 @@
--- A legal history is short, so no count comes near its end.
+-- Bounds on what a legal history counts: it is short, at most eight tokens are held, and at most three strikes were made.
 use Rattle.std.proofs.Common.{◌≡◌, ℕ, ◌+◌, ◌-◌, ◌*◌, ◌/◌, ◌%◌, ◌<◌, ◌≤◌, Bool, true, false, cond, List, [], ◌∷◌, refl, ap, arith, sym, ◌∙◌, length, Some, None, Option}
 use Rattle.std.specs.Prelude.{◌==◌, ◌&&◌, nat_lt, if◌then◌else◌, slice_index, is_some, count_by}
 use Rattle.std.proofs.lemmas.List.{get_or_past}
@@ -20,6 +20,7 @@ use Rattle.hb_turns.specs.Kept.{IsFair, IsTable}
 use Rattle.hb_turns.specs.Steps.{HasRoom}
 use Rattle.hb_turns.proofs.Fair.{rank-le}
 
+-- each act puts at most one order on the discards
 lost_by-le : (g : Setup) (past : List Act) (before : List ℕ) (act : Action) → length (lost_by g past act before) ≤ length before + 1
 lost_by-le g past before (action.Play order) = grind arith
 lost_by-le g past before (action.Discard order) = omega arith
@@ -30,6 +31,7 @@ lost-le : (g : Setup) (past : List Act) → length (lost g past) ≤ length past
 lost-le g [] = omega arith
 lost-le g (act ∷ past) = let ih : length (lost g past) ≤ length past = lost-le g past in let h : length (lost_by g past act.action (lost g past)) ≤ length (lost g past) + 1 = lost_by-le g past (lost g past) act.action in omega arith
 
+-- and plays or discards at most one
 removed-le : (past : List Act) → length (removed past) ≤ length past
 removed-le [] = omega arith
 removed-le (act ∷ past) = let ih : length (removed past) ≤ length past = removed-le past in step act.action ih
@@ -40,6 +42,7 @@ removed-le (act ∷ past) = let ih : length (removed past) ≤ length past = rem
     step (action.Clue to clue) ih = omega arith
     step (action.End how) ih = omega arith
 
+-- no count of lost cards is near its end
 lost-low : (g : Setup) (past : List Act) (t : Table) → IsTable g past t → length past ≤ 160 → (n : ℕ) → n < 30 → slice_index t.lost n < 200
 lost-low g past t kept short n low =
     let s_low : n / 5 < 6 = omega arith in
@@ -59,6 +62,7 @@ gone-at g past t kept n low =
     let e : slice_index t.gone (n / 5 * 5 + n % 5) ≡ gone_copies g past (record { suit = n / 5; rank = n % 5 + 1 }) = kept.gone (n / 5) (n % 5) s_low r_low in
     rw index at e
 
+-- and no count of cards that are gone
 gone-low : (g : Setup) (past : List Act) (t : Table) → IsTable g past t → length past ≤ 160 → (n : ℕ) → n < 30 → slice_index t.gone n < 200
 gone-low g past t kept short n low =
     let e : slice_index t.gone n ≡ gone_copies g past (identity n) = gone-at g past t kept n low in
@@ -76,10 +80,7 @@ has-room g past t fair kept short = record {
   gone = λ n. let low : n < 30 → slice_index t.gone n < 200 = gone-low g past t kept short n in grind (arith, low, get_or_past t.gone n 0, kept.many_gone);
 }
 
-is_none : {X : Type 0} (o : Option X) → is_some o ≡ false → o ≡ None
-is_none o h = grind arith
-
--- the parts of an end
+-- in a game that runs no end was called, and the last round is not over
 pub not-called : (g : Setup) (past : List Act) → is_some (ended g past) ≡ false → (called past ≡ None) × (is_last_round_over g (emptied g past) (turns past) ≡ false)
 unfolding ended
 not-called g past h = grind arith

@@ -26,9 +26,7 @@ at-eq (Some n) k b e = grind arith
 pub meet-is : (a b m : ℕ) (p q : Bool) → m ≡ min a b → a < 2 → b < 2 → (a == 1) ≡ p → (b == 1) ≡ q → (m == 1) ≡ (p && q)
 meet-is a b m p q e low low' f h = grind arith
 
-none-yet : (old : Bool) (at : Bool) (b : Bool) → old ≡ (old && (if nat_lt 0 0 && at then b else true))
-none-yet old at b = grind arith
-
+-- before the first order nothing is narrowed
 pub narrowed_none : (g : Setup) (holders : List (Option ℕ)) (to : ℕ) (clue : Clue) (marks : List ℕ) → IsNarrowed g holders to clue marks marks 0
 narrowed_none g holders to clue marks = record { long = refl; bits = λ k n. grind arith }
 

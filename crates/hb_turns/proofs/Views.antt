@@ -1,4 +1,4 @@
--- An act that may come after what callers see may come after the acts of the fields.
+-- What callers see of a game, and its fields: a fact about the one is a fact about the other.
 use Rattle.std.proofs.Common.{◌≡◌, ℕ, ◌<◌, ◌≤◌, List, length, Some, None, Option, Bool, true, false, subst, sym, arith, reverse, ◌+◌, ◌-◌, [], ◌∷◌, zero, suc, drop, ap, ◌∙◌, refl}
 use Rattle.std.specs.Prelude.{is_some, filter, slice_index, slice_index_or, All}
 use Rattle.std.proofs.Math.Seq.{drop-cons}
@@ -10,7 +10,6 @@ use Rattle.hb_rules.specs.declared.suits.Identity.{Identity}
 use Rattle.hb_rules.specs.Setup.{card}
 use Rattle.hb_rules.specs.Touch.{touches}
 use Rattle.hb_rules.specs.Hands.{holder, hand, is_at}
-use Rattle.hb_rules.proofs.Hands.{holder-past}
 use Rattle.hb_rules.proofs.HandSize.{room-in-hand}
 use Rattle.std.proofs.lemmas.List.{length-reverse, get_or-reverse, get_or_default}
 use Rattle.hb_rules.specs.declared.acts.Act.{Act}
@@ -20,8 +19,14 @@ use Rattle.hb_rules.specs.Setup.{Position}
 use Rattle.hb_rules.specs.Result.{ended}
 use Rattle.hb_rules.specs.Legality.{rule, Legal}
 use Rattle.hb_turns.specs.Kept.{IsFair}
+use Rattle.hb_turns.proofs.Fair.{held-below}
 
-pub may-inside : (g : Setup) (past : List Act) (p : Position) (who : ℕ) (a b : Action) → record { setup = g; past = past } ≡ p → rule p.setup p.past (record { who = who; action = a }) ≡ None → a ≡ b
+-- a setup and the acts after it, as callers see them
+abbrev pub position : Setup → List Act → Position
+position g past = record { setup = g; past = past }
+
+-- an act that breaks no rule of what callers see breaks none of the fields
+pub may-inside : (g : Setup) (past : List Act) (p : Position) (who : ℕ) (a b : Action) → position g past ≡ p → rule p.setup p.past (record { who = who; action = a }) ≡ None → a ≡ b
     → rule g past (record { who = who; action = b }) ≡ None
 may-inside g past p who a b e h is =
     let Q : Position → Type 0 = λ q. rule q.setup q.past (record { who = who; action = a }) ≡ None in
@@ -29,11 +34,12 @@ may-inside g past p who a b e h is =
     rw is at here
 
 -- there is room in a hand for an order that callers see in it
-pub room-at : (g : Setup) (past : List Act) (p : Position) → record { setup = g; past = past } ≡ p → IsFair g → Legal g past → (seat k : ℕ) → k < length g.deck.items → is_at (holder p.setup p.past k) seat ≡ true
+pub room-at : (g : Setup) (past : List Act) (p : Position) → position g past ≡ p → IsFair g → Legal g past → (seat k : ℕ) → k < length g.deck.items → is_at (holder p.setup p.past k) seat ≡ true
     → length (filter (λ order. is_at (holder p.setup p.past order) seat) (range_with_len 0 k)) < 6
 room-at g past p e fair legal seat k low = let Q : Position → Type 0 = λ q. is_at (holder q.setup q.past k) seat ≡ true → length (filter (λ order. is_at (holder q.setup q.past order) seat) (range_with_len 0 k)) < 6 in
     subst Q e (room-in-hand g past fair.dealt legal seat k low)
 
+-- a legal history without its newest acts is one
 legal-drop : (g : Setup) (past : List Act) (m : ℕ) → Legal g past → Legal g (drop m past)
 legal-drop g past zero legal = legal
 legal-drop g [] (suc m) legal = legal
@@ -46,6 +52,7 @@ next-at g past m d low legal =
     let l : Legal g (drop m past) = legal-drop g past m legal in
     let l' : Legal g (slice_index_or past m d ∷ drop (suc m) past) = rw e at l in (l'.0, e)
 
+-- the same by the acts as the fields have them, the oldest first
 next-inside : (g : Setup) (items : List Act) (i : ℕ) (act : Act) → i < length items → act ≡ slice_index_or items i act → Legal g (reverse items)
     → (rule g (drop (length (reverse items) - i) (reverse items)) act ≡ None) × (act ∷ drop (length (reverse items) - i) (reverse items) ≡ drop (length (reverse items) - (i + 1)) (reverse items))
 next-inside g items i act low here legal =
@@ -61,20 +68,6 @@ next-inside g items i act low here legal =
     next-at g (reverse items) (length items - (i + 1)) act m-low legal in
     rw (e1, e2) (rw at' at n.0, sym (rw at' at n.1))
 
-abbrev pub position : Setup → List Act → Position
-position g past = record { setup = g; past = past }
-
--- the game of the first i acts may go on with the next
-pub next-act : (g : Setup) (items : List Act) (p q : Position) (i : ℕ) (act : Act) → position g (reverse items) ≡ p → q ≡ position p.setup (drop (length p.past - i) p.past)
-    → i < length items → act ≡ slice_index_or items i act → Legal g (reverse items)
-    → (rule q.setup q.past act ≡ None) × (position q.setup (act ∷ q.past) ≡ position p.setup (drop (length p.past - (i + 1)) p.past))
-next-act g items p q i act e f low here legal =
-    let n : (rule g (drop (length (reverse items) - i) (reverse items)) act ≡ None) × (act ∷ drop (length (reverse items) - i) (reverse items) ≡ drop (length (reverse items) - (i + 1)) (reverse items)) = next-inside g items i act low here legal in
-    let P : Position → Type 0 = λ z. (rule z.setup (drop (length z.past - i) z.past) act ≡ None) × (position z.setup (act ∷ drop (length z.past - i) z.past) ≡ position z.setup (drop (length z.past - (i + 1)) z.past)) in
-    let at-p : P p = subst P e (n.0, ap (position g) n.1) in
-    let Q : Position → Type 0 = λ z. (rule z.setup z.past act ≡ None) × (position z.setup (act ∷ z.past) ≡ position p.setup (drop (length p.past - (i + 1)) p.past)) in
-    subst Q (sym f) at-p
-
 -- the act at a place, as callers see it
 pub act-inside : (g : Setup) (items : List Act) (p : Position) (i : ℕ) (d : Act) → position g (reverse items) ≡ p → i < length p.past → Legal g (reverse items)
     → (rule p.setup (drop (length p.past - i) p.past) (slice_index_or items i d) ≡ None) × (drop (length p.past - (i + 1)) p.past ≡ slice_index_or items i d ∷ drop (length p.past - i) p.past)
@@ -88,11 +81,7 @@ act-inside g items p i d e low legal =
 
 -- an order that callers see in a hand is one of the deck's
 pub held-low : (g : Setup) (past : List Act) (p : Position) (order : ℕ) → position g past ≡ p → IsFair g → is_some (holder p.setup p.past order) ≡ true → order < length g.deck.items
-held-low g past p order e fair held =
-    let P : Position → Type 0 = λ q. is_some (holder q.setup q.past order) ≡ true in
-    let here : is_some (holder g past order) ≡ true = subst P (sym e) held in
-    let nobody : length g.deck.items ≤ order → holder g past order ≡ None = holder-past g past order fair.dealt in
-    grind (arith, nobody)
+held-low g past p order e fair held = let P : Position → Type 0 = λ q. is_some (holder q.setup q.past order) ≡ true in held-below g past order fair (subst P (sym e) held)
 
 -- the orders in a hand are below the number of cards
 range-low : (n : ℕ) → All (λ k. k < n) (range_with_len 0 n)

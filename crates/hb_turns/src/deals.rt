@@ -1,6 +1,6 @@
 //! How many cards are dealt, and to whom.
 
-ghost use Rattle.std.specs.Prelude.{◌≡◌, ◌<◌, ◌≤◌, length};
+ghost use Rattle.std.specs.Prelude.{◌≡◌, ◌*◌, ◌≤◌, length};
 ghost use Rattle.hb_rules.specs.Setup.{hand_size as hand_size_of, deal_size as deal_size_of};
 ghost use Rattle.hb_turns.specs.Dealt.{IsDealt};
 
@@ -25,7 +25,7 @@ pub fn hand_size(setup: &Setup) -> u8
 /// The number of cards that are dealt.
 pub fn deal_size(setup: &Setup) -> usize
     ensures size { result ≡ deal_size_of setup.now }
-    ensures few { result < 65536 }
+    ensures few { result ≤ 255 * MOST_HAND }
 {
     setup.players as usize * hand_size(setup) as usize
 }

@@ -1,4 +1,4 @@
-use Rattle.std.proofs.Common.{ℕ, ◌<◌, List, length, slice_index, arith, ap, sym, ◌∙◌, subst}
+use Rattle.std.proofs.Common.{ℕ, ◌<◌, List, length, slice_index, arith, ap, ◌∙◌, subst}
 use Rattle.hb_sets.specs.Sets.{Has}
 use Rattle.hb_match.specs.Matching.{uses, IsObstruction}
 use Rattle.hb_match.specs.Placing.{Gathers, Places}

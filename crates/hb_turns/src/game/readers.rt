@@ -1,6 +1,6 @@
 //! What a game answers of its setup, its hands and its counts.
 
-ghost use Rattle.std.specs.Prelude.{◌≡◌, ◌++◌, true, if◌then◌else◌, ℕ, ◌+◌, ◌-◌, ◌<◌, ◌≤◌, ◌==◌, ◌&&◌, [], ◌∷◌, length, IsTrue, reverse, Some, None, is_some, is_none, bit_or, ◌^◌, drop, slice_index};
+ghost use Rattle.std.specs.Prelude.{◌≡◌, ◌++◌, true, if◌then◌else◌, ℕ, ◌+◌, ◌*◌, ◌-◌, ◌<◌, ◌≤◌, ◌==◌, ◌&&◌, [], ◌∷◌, length, IsTrue, reverse, Some, None, is_some, is_none, bit_or, ◌^◌, drop, slice_index};
 ghost use Rattle.hb_rules.specs.Setup.{hand_size as hand_size_of, deal_size as deal_size_of, card};
 ghost use Rattle.hb_rules.specs.Cards.{identity};
 ghost use Rattle.hb_rules.specs.Hands.{removed, holder as holder_of, hand as hand_of, left as left_of, is_at, drawn as drawn_by, drawn_count as drawn_count_of};
@@ -102,7 +102,7 @@ impl Game {
     /// The order that is drawn next, while the deck has cards.
     fn next_order(&self) -> usize
         ensures next { result ≡ deal_size_of self.now.setup + length (removed self.now.past) }
-        ensures few { result < 65536 + 256 }
+        ensures few { result ≤ 255 * MOST_HAND + 255 }
     {
         deal_size(&self.setup) + self.table.removed as usize
     }

@@ -1,4 +1,4 @@
-use Rattle.std.proofs.Common.{◌≡◌, ℕ, ◌+◌, ◌<◌, [], length, get_or, arith}
+use Rattle.std.proofs.Common.{◌≡◌, ◌+◌, [], get_or, arith}
 use Rattle.hb_match.specs.Matching.{uses}
 use Rattle.hb_match.proofs.Uses.{uses-nil}
 use Rattle.hb_match.proofs.Copies.{chosen-lt, over-pos, over_less}

@@ -1,6 +1,5 @@
 use Rattle.std.proofs.Common.{ℕ, ◌<◌, get_or}
 use Rattle.hb_sets.specs.Sets.{Has}
-use Rattle.hb_match.specs.Matching.{uses}
 use Rattle.hb_match.proofs.placing.spare_ids.Given as goal
 
 abbrev pub invariant-loop-id : goal.invariant-loop-id
