@@ -1,28 +1,13 @@
 // The identities that hidden cards can have, in games whose sets were found by hand.
 
 use hb_empathy::{hand_sets, identities};
-use hb_rules::{Action, Clue, Identity, Options, Suit, Variant};
+use hb_rules::{Action, Clue, Identity, Options, Variant};
 use hb_sight::Blind;
-use hb_suits::{copies, identity};
+use hb_suits::{copies, identity, variant};
 use hb_turns::Game;
 use std::alloc::{AllocError, Global};
 use std::process::Abort;
 use std::test::Fail;
-
-/// Five suits, of which the first four are Red, Yellow, Green and Blue.
-fn five_suits(last: Suit) -> Variant {
-    Variant {
-        suits: [
-            Some(Suit::Red),
-            Some(Suit::Yellow),
-            Some(Suit::Green),
-            Some(Suit::Blue),
-            Some(last),
-            None,
-        ],
-        special: None,
-    }
-}
 
 /// A deck that begins with the identities with these numbers and goes on with the rest in order of numbers.
 fn deck(alloc: Global, variant: &Variant, first: &[u8]) -> Result<Vec<Identity>, AllocError> {
@@ -81,7 +66,7 @@ fn hand_text(alloc: Global, game: &Game, seat: u8) -> Result<String, AllocError>
 #[test]
 fn two_cards_that_share_two_identities_leave_them_to_no_other(rt: HostRuntime) -> Result<(), Fail> {
     let alloc = rt.alloc();
-    let variant = five_suits(Suit::Purple);
+    let variant = variant("No Variant")?;
 
     // Seat 0 has c5 d5 a1 a1 a1 and seat 1 has a5 b5 e5 a2 a2.
     let cards = deck(alloc, &variant, &[14, 19, 0, 0, 0, 4, 9, 24, 1, 1])?;
@@ -108,17 +93,7 @@ fn two_cards_that_share_two_identities_leave_them_to_no_other(rt: HostRuntime) -
 #[test]
 fn a_clue_to_one_card_tells_of_the_others(rt: HostRuntime) -> Result<(), Fail> {
     let alloc = rt.alloc();
-    let variant = Variant {
-        suits: [
-            Some(Suit::Red),
-            Some(Suit::Green),
-            Some(Suit::Black),
-            None,
-            None,
-            None,
-        ],
-        special: None,
-    };
+    let variant = variant("=Red+Green+Black")?;
     let options = Options {
         extra_card: true,
         ..Options::default()
@@ -155,7 +130,7 @@ fn a_clue_to_one_card_tells_of_the_others(rt: HostRuntime) -> Result<(), Fail> {
 #[test]
 fn clues_that_touch_nothing_of_a_card_tell_what_it_is(rt: HostRuntime) -> Result<(), Fail> {
     let alloc = rt.alloc();
-    let variant = five_suits(Suit::Null);
+    let variant = variant("Null (5 Suits)")?;
 
     // Seat 0 has e1 a1 b2 c3 d4, and seat 1 has a1 a1 b1 b1 and c1, or e5 in its place.
     for (last, first) in [(10, "e1e2e3e4e5"), (24, "e1e2e3e4")] {

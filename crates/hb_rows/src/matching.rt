@@ -5,16 +5,19 @@ ghost use Rattle.std.specs.Prelude.{◌≤◌, length};
 use arrayvec::ArrayVec;
 use hb_match::{IDENTITIES, Verdict, assign, possible, possible_all};
 
-/// The sets of the identities 0, 14 and 19 alone, which are the 1 of the first suit and the 5s of the third and fourth.
+/// The set of the 1 of the first suit, identity 0.
 const A1: u64 = 1 << 0;
 
+/// The set of the 5 of the third suit, identity 14.
 const C5: u64 = 1 << 14;
 
+/// The set of the 5 of the fourth suit, identity 19.
 const D5: u64 = 1 << 19;
 
-/// Four cards, of which each shares an identity with the next: {0}, {0, 1}, {1, 2}, {2, 3}.
+/// The sets {0}, {0, 1}, {1, 2} and {2, 3}: each card shares an identity with the next.
 const CHAIN: [u64; 4] = [1, 3, 6, 12];
 
+/// The same cards from the last to the first.
 const REVERSED: [u64; 4] = [12, 6, 3, 1];
 
 /// One copy of each of these identities, and none of the others.
