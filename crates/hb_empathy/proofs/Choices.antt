@@ -1,6 +1,6 @@
 -- While a game runs, the deals of an observation are the choices for its hidden cards that meet the clues and the copies.
-use Rattle.std.proofs.Common.{◌≡◌, ℕ, ◌+◌, ◌<◌, ◌≤◌, ◌↔◌, Bool, true, false, cond, List, [], ◌∷◌, ◌++◌, refl, ap, arith, sym, ◌∙◌, length, Some, None, Option, zero, suc, subst, take}
-use Rattle.std.specs.Prelude.{◌==◌, ◌&&◌, not, nat_lt, is_some, if◌then◌else◌, map, filter, count_by, slice_index_or}
+use Rattle.std.proofs.Common.{◌≡◌, ℕ, ◌+◌, ◌<◌, ◌≤◌, Bool, true, false, cond, List, [], ◌∷◌, ◌++◌, refl, ap, arith, sym, ◌∙◌, length, Some, None, Option, zero, suc, subst, take}
+use Rattle.std.specs.Prelude.{not, nat_lt, is_some, if◌then◌else◌, map, filter, count_by, slice_index_or}
 use Rattle.std.specs.List.{range_with_len}
 use Rattle.std.proofs.lemmas.List.{get_or_append_left, get_or_past, same_lists, length-take-le, get_or-take, get_or_default}
 use Rattle.std.proofs.lemmas.List.FromFn.{get_or-map-range_with_len, length-map-range_with_len}
@@ -16,15 +16,16 @@ use Rattle.hb_rules.specs.Setup.{card, deal_size}
 use Rattle.hb_rules.specs.Hands.{removed, drawn_count, receiver, holder, is_gone}
 use Rattle.hb_rules.specs.Result.{ended}
 use Rattle.hb_rules.specs.Legality.{Legal}
-use Rattle.hb_rules.specs.Events.{observation, acts_of, in_blind}
+use Rattle.hb_rules.specs.Events.{observation, acts_of}
 use Rattle.hb_rules.specs.Deals.{IsDeal, IsPossible}
 use Rattle.hb_rules.specs.Marks.{IsChoice, is_hidden, hidden, seen, meets, meets_one, hides_from}
 use Rattle.hb_rules.proofs.Decks.{fill, length-same}
 use Rattle.hb_rules.proofs.Hands.{holder-past}
 use Rattle.hb_rules.proofs.Undrawn.{receiver-undrawn, gone-undrawn, received}
 use Rattle.hb_empathy.specs.Laws.{IsDealt, DealsAreChoices}
-use Rattle.hb_empathy.proofs.Acts.{acts_of-observation}
-use Rattle.hb_empathy.proofs.Replays.{with_cards, Replays, replays-legal}
+use Rattle.hb_sight.proofs.Acts.{acts_of-observation}
+use Rattle.hb_sight.proofs.Agreement.{with_cards}
+use Rattle.hb_empathy.proofs.Replays.{Replays, replays-legal}
 use Rattle.hb_empathy.proofs.Observed.{Shown, replays-observation, observation-replays, same-self}
 
 -- what holds of a game that runs

@@ -1,6 +1,6 @@
 -- Exact sets: of cards that the blind set sees, of every card after the end, and of hidden cards by what a matching finds.
-use Rattle.std.proofs.Common.{◌≡◌, ◌≢◌, ℕ, ◌+◌, ◌-◌, ◌*◌, ◌/◌, ◌%◌, ◌<◌, ◌≤◌, ◌↔◌, ◌⊎◌, inl, inr, Bool, true, false, List, [], ◌∷◌, refl, ap, arith, sym, ◌∙◌, length, Some, None, Option, subst}
-use Rattle.std.specs.Prelude.{◌==◌, ◌&&◌, ◌||◌, not, nat_le, nat_lt, is_some, slice_index, slice_index_or, if◌then◌else◌, IsTrue, IsNone, IsSome}
+use Rattle.std.proofs.Common.{◌≡◌, ℕ, ◌+◌, ◌/◌, ◌%◌, ◌<◌, ◌≤◌, ◌↔◌, ◌⊎◌, inl, inr, Bool, true, false, List, refl, ap, arith, sym, ◌∙◌, length, Some, None, subst}
+use Rattle.std.specs.Prelude.{◌||◌, not, is_some, if◌then◌else◌, IsTrue, IsNone, IsSome}
 use Rattle.std.proofs.lemmas.Bool.{cases_lt}
 use Rattle.std.proofs.lemmas.List.{get_or_past}
 use Rattle.hb_rules.specs.declared.acts.Act.{Act}
@@ -10,13 +10,13 @@ use Rattle.hb_rules.specs.declared.setups.Setup.{Setup}
 use Rattle.hb_rules.specs.declared.suits.Identity.{Identity}
 use Rattle.hb_rules.specs.declared.variants.Variant.{Variant}
 use Rattle.hb_rules.specs.Cards.{IsDeck, identity, number, in_range}
-use Rattle.hb_rules.specs.Setup.{card, deal_size, with_deck, Position}
+use Rattle.hb_rules.specs.Setup.{card, with_deck}
 use Rattle.hb_rules.specs.Hands.{receiver, holder, is_gone}
 use Rattle.hb_rules.specs.Result.{ended}
 use Rattle.hb_rules.specs.Legality.{Legal}
 use Rattle.hb_rules.specs.Events.{observation, acts_of, in_blind}
 use Rattle.hb_rules.specs.Deals.{IsPossible}
-use Rattle.hb_rules.specs.Marks.{is_hidden, hides_from, hidden}
+use Rattle.hb_rules.specs.Marks.{is_hidden, hidden}
 use Rattle.hb_rules.proofs.Decks.{length-same}
 use Rattle.hb_rules.proofs.DeckSize.{deck-card}
 use Rattle.hb_rules.proofs.Hands.{holder-past}
@@ -25,8 +25,9 @@ use Rattle.hb_sets.specs.Sets.{Has}
 use Rattle.hb_match.specs.Matching.{Possible}
 use Rattle.hb_turns.specs.Kept.{IsFair}
 use Rattle.hb_empathy.specs.Exact.{IsExact, IsExactFor, IsOnly}
-use Rattle.hb_empathy.proofs.Acts.{acts_of-observation}
-use Rattle.hb_empathy.proofs.Replays.{with_cards, Replays}
+use Rattle.hb_sight.proofs.Acts.{acts_of-observation}
+use Rattle.hb_sight.proofs.Agreement.{with_cards}
+use Rattle.hb_empathy.proofs.Replays.{Replays}
 use Rattle.hb_empathy.proofs.Observed.{Shown, observation-replays}
 use Rattle.hb_empathy.proofs.Choices.{Runs, own-deal}
 use Rattle.hb_empathy.proofs.Ended.{one-deal}

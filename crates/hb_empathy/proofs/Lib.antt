@@ -1,4 +1,3 @@
-pub mod Acts
 pub mod Replays
 pub mod Observed
 pub mod Choices

@@ -1,16 +1,16 @@
 -- The steps of the loops.
-use Rattle.std.proofs.Common.{◌≡◌, ◌≢◌, ℕ, ◌+◌, ◌-◌, ◌<◌, ◌≤◌, ⊎_elim, Bool, true, false, cond, nat_lt, List, [], ◌∷◌, ◌++◌, refl, ap, arith, sym, ◌∙◌, length, subst}
-use Rattle.std.specs.Prelude.{◌==◌, ◌&&◌, filter, count_by, slice_index, slice_set, if◌then◌else◌, IsTrue}
+use Rattle.std.proofs.Common.{◌≡◌, ◌≢◌, ℕ, ◌+◌, ◌-◌, ◌<◌, ◌≤◌, ⊎_elim, Bool, true, false, cond, List, [], ◌∷◌, ◌++◌, refl, arith, sym, ◌∙◌, length, subst}
+use Rattle.std.specs.Prelude.{filter, count_by, slice_index, slice_set, IsTrue}
 use Rattle.std.specs.List.{range_with_len}
 use Rattle.std.proofs.lemmas.Bool.{cases_eq}
 use Rattle.std.proofs.lemmas.List.{get_or-set_same, get_or-set_other, append-nil, length-set}
-use Rattle.std.proofs.lemmas.List.Sums.{sum_by-append, sum_by_push}
+use Rattle.std.proofs.lemmas.List.Sums.{sum_by_push}
 use Rattle.hb_rules.specs.declared.acts.Act.{Act}
 use Rattle.hb_rules.specs.declared.setups.Setup.{Setup}
 use Rattle.hb_rules.specs.declared.suits.Identity.{Identity}
 use Rattle.hb_rules.specs.declared.variants.Variant.{Variant}
 use Rattle.hb_rules.specs.Cards.{copies, identity, number, same_identity, in_range, has_number}
-use Rattle.hb_rules.specs.Setup.{card, deal_size}
+use Rattle.hb_rules.specs.Setup.{card}
 use Rattle.hb_rules.specs.Hands.{drawn_count}
 use Rattle.hb_rules.specs.Legality.{Legal}
 use Rattle.hb_rules.specs.Marks.{is_hidden, gone_copies}

@@ -9,7 +9,6 @@ use Rattle.hb_rules.specs.declared.acts.Act.{Act}
 use Rattle.hb_rules.specs.declared.acts.Action.{Action}
 use Rattle.hb_rules.specs.declared.acts.Action.TheVariants as action
 use Rattle.hb_rules.specs.declared.acts.Clue.{Clue}
-use Rattle.hb_rules.specs.declared.acts.EndHow.{EndHow}
 use Rattle.hb_rules.specs.declared.events.Event.{Event}
 use Rattle.hb_rules.specs.declared.events.Event.TheVariants as event
 use Rattle.hb_rules.specs.declared.setups.Setup.{Setup}
@@ -20,11 +19,12 @@ use Rattle.hb_rules.specs.Hands.{removed, drawn, joins, receiver, hand, holder, 
 use Rattle.hb_rules.specs.Result.{ended, fits}
 use Rattle.hb_rules.specs.Legality.{Legal, touched}
 use Rattle.hb_rules.specs.Events.{events, bits, told, draws, ends, drawn_event, blank, blanked, observation, in_blind, caller}
-use Rattle.hb_rules.specs.Marks.{meets_one, same}
+use Rattle.hb_rules.specs.Marks.{same}
 use Rattle.hb_rules.proofs.Hands.{holder-past}
 use Rattle.hb_rules.proofs.Rules.{may_runs}
 use Rattle.hb_rules.proofs.Undrawn.{receiver-undrawn}
-use Rattle.hb_empathy.proofs.Replays.{with_cards, hand-same, joins-same, MeetsClue, touched-same, both, same-counts, ended-same, Replays, replays-before}
+use Rattle.hb_sight.proofs.Agreement.{with_cards, hand-same, joins-same, same-counts, ended-same}
+use Rattle.hb_empathy.proofs.Replays.{MeetsClue, touched-same, both, Replays, replays-before}
 
 -- the cards that a seat outside the blind set was dealt or drew are the same
 abbrev pub Shown : ℕ → Setup → List Act → List Identity → Type 0

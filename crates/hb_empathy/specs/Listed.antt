@@ -1,6 +1,5 @@
 -- The possible identities of an order as a list, for lines that print them.
-use Rattle.std.specs.Prelude.{◌≡◌, ℕ, ◌<◌, ◌↔◌, ◌==◌, List, filter, Contains}
-use Rattle.std.specs.List.{range_with_len}
+use Rattle.std.specs.Prelude.{ℕ, ◌<◌, ◌↔◌, List, Contains}
 use Rattle.std.specs.List.Sorted.{IsStrictlyIncreasing}
 use Rattle.hb_rules.specs.declared.acts.Options.{Options}
 use Rattle.hb_rules.specs.declared.events.Event.{Event}
@@ -8,11 +7,6 @@ use Rattle.hb_rules.specs.declared.limits.TheConstants.{IDENTITIES}
 use Rattle.hb_rules.specs.declared.variants.Variant.{Variant}
 use Rattle.hb_rules.specs.Cards.{identity}
 use Rattle.hb_rules.specs.Deals.{IsPossible}
-use Rattle.hb_sets.specs.Sets.{bit}
-
--- the identity numbers in a set, ascending
-abbrev pub members : ℕ → List ℕ
-members set = filter (λ number. bit set number == 1) (range_with_len 0 IDENTITIES)
 
 -- the numbers are those of the identities that are possible for the order, ascending
 pub record ArePossible (blind : ℕ) (v : Variant) (o : Options) (players : ℕ) (seen : List Event) (order : ℕ) (numbers : List ℕ) : Type 0 where

@@ -1,2 +1,5 @@
 pub mod Places
 pub mod Seats
+pub mod Acts
+pub mod Agreement
+pub mod Seen

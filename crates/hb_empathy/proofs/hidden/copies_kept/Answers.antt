@@ -1,5 +1,4 @@
-use Rattle.std.proofs.Common.{arith, ◌≡◌, ◌+◌, ◌≤◌, ◌∙◌, ℕ}
-use Rattle.std.specs.Prelude.{slice_index}
+use Rattle.std.proofs.Common.{arith, ◌≡◌, ◌+◌, ◌∙◌}
 use Rattle.std.proofs.lemmas.List.{length-set}
 use Rattle.hb_rules.specs.Cards.{copies, identity}
 use Rattle.hb_rules.specs.Marks.{gone_copies}

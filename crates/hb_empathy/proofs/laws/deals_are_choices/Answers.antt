@@ -1,7 +1,6 @@
 use Rattle.hb_empathy.proofs.Choices.{deals-choices}
 use Rattle.hb_empathy.proofs.Ended.{one-deal}
-use Rattle.hb_empathy.proofs.Known.{game-runs, found-exact}
-use Rattle.hb_empathy.proofs.Listed.{possible-once}
+use Rattle.hb_empathy.proofs.Known.{game-runs}
 use Rattle.hb_empathy.proofs.laws.deals_are_choices.Goals as goal
 
 pub returns-clause-running : goal.returns-clause-running

@@ -1,4 +1,4 @@
-use Rattle.std.proofs.Common.{arith, ◌≡◌, ◌<◌, ◌≤◌, ◌∙◌, List, ℕ, length, refl, true, ap, subst}
+use Rattle.std.proofs.Common.{arith, ◌≡◌, ◌<◌, ◌≤◌, ◌∙◌, ℕ, length, refl, true, ap, subst}
 use Rattle.std.specs.Prelude.{is_some, slice_index}
 use Rattle.hb_rules.specs.Hands.{hand}
 use Rattle.hb_rules.specs.Marks.{is_hidden}

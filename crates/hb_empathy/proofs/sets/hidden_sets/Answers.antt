@@ -1,8 +1,7 @@
-use Rattle.std.proofs.Common.{arith, ◌≡◌, ◌<◌, ◌↔◌, ◌∙◌, ℕ, List, length, sym, ap, subst}
+use Rattle.std.proofs.Common.{◌<◌, ◌↔◌, ◌∙◌, sym, subst}
 use Rattle.std.specs.Prelude.{slice_index, All, IsSome}
 use Rattle.std.specs.List.Sorted.{IsStrictlyIncreasing}
 use Rattle.hb_rules.specs.Hands.{holder}
-use Rattle.hb_rules.specs.Marks.{hidden}
 use Rattle.hb_sets.specs.Sets.{Has}
 use Rattle.hb_match.specs.Matching.{Possible}
 use Rattle.hb_empathy.specs.Unseen.{AreMarks}

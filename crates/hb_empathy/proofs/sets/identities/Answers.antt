@@ -1,4 +1,4 @@
-use Rattle.std.proofs.Common.{arith, ◌≡◌, ◌<◌, length, Some, true, false, ap, ◌∙◌, sym}
+use Rattle.std.proofs.Common.{arith, ◌≡◌, Some, true, ap, ◌∙◌, sym}
 use Rattle.std.specs.Prelude.{is_some, IsTrue, not, ◌||◌, slice_index}
 use Rattle.hb_rules.specs.Cards.{in_range}
 use Rattle.hb_rules.specs.Events.{in_blind}

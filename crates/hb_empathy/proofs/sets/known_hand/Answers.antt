@@ -1,4 +1,4 @@
-use Rattle.std.proofs.Common.{arith, ◌≡◌, ◌<◌, ◌≤◌, ◌∙◌, List, ℕ, length, refl, ap, subst}
+use Rattle.std.proofs.Common.{arith, ◌≡◌, ◌<◌, ◌≤◌, ◌∙◌, length, refl, ap, subst}
 use Rattle.std.specs.Prelude.{is_some, slice_index}
 use Rattle.hb_rules.specs.Hands.{hand}
 use Rattle.hb_empathy.proofs.Hands.{held-at, hand-none, hand-more, hand-done, known-entry}

@@ -1,4 +1,4 @@
-use Rattle.std.proofs.Common.{subst, ◌≡◌}
+use Rattle.std.proofs.Common.{subst}
 use Rattle.hb_rules.specs.Cards.{number}
 use Rattle.hb_empathy.specs.Exact.{IsOnly}
 use Rattle.hb_empathy.proofs.Known.{held-card}
