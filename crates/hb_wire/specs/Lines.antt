@@ -1,8 +1,7 @@
 -- The lines that a viewer reads, as functions of what the viewer is told. The lines are this project's own.
-use Rattle.std.specs.Prelude.{ℕ, ◌+◌, ◌==◌, Bool, List, [], ◌∷◌, ◌++◌, Option, Some, None, codes, filter, flat_map, if◌then◌else◌}
-use Rattle.std.specs.Int.{bit_at}
-use Rattle.std.specs.List.{range_with_len}
-use Rattle.serde_json.specs.Data.{Data, null, boolean, string, object, no_members, member}
+use Rattle.std.specs.Prelude.{ℕ, ◌+◌, Bool, List, [], ◌∷◌, ◌++◌, Option, Some, None, codes, flat_map, if◌then◌else◌, map}
+use Rattle.serde_json.specs.Data.{Data, null, boolean, string, array, object, no_items, item, no_members, member}
+use Rattle.serde_json.specs.View.{items_of}
 use Rattle.serde_json.specs.Written.{compact_text}
 use Rattle.hb_rules.specs.declared.acts.Clue.{Clue}
 use Rattle.hb_rules.specs.declared.acts.Clue.TheVariants as clue
@@ -11,9 +10,13 @@ use Rattle.hb_rules.specs.declared.acts.Options.{Options}
 use Rattle.hb_rules.specs.declared.events.Event.{Event}
 use Rattle.hb_rules.specs.declared.events.Event.TheVariants as event
 use Rattle.hb_rules.specs.declared.suits.Identity.{Identity}
-use Rattle.hb_rules.specs.Cards.{in_range}
+use Rattle.hb_rules.specs.declared.limits.TheConstants.{IDENTITIES}
+use Rattle.hb_rules.specs.Cards.{identity, in_range}
 use Rattle.hb_rules.specs.Numbers.{end_number}
 use Rattle.hb_json.specs.Values.{whole, wholes_data, texts_data, options_data}
+use Rattle.hb_wire.specs.declared.sets.TheConstants.{SET_LIMIT}
+use Rattle.hb_wire.specs.declared.standing.State.{State}
+use Rattle.hb_wire.specs.Members.{members}
 
 -- a line is a word, one space and compact JSON
 unfoldable pub line : List ℕ → Data → List ℕ
@@ -32,13 +35,9 @@ abbrev pub card_data : Option Identity → Data
 card_data None = null
 card_data (Some id) = string (identity_text id)
 
--- the orders of a set that are below a bound, ascending
-unfoldable pub orders_below : ℕ → ℕ → List ℕ
-orders_below bound set = filter (λ order. bit_at set order == 1) (range_with_len 0 bound)
-
 -- the orders of a set, ascending
 abbrev pub orders_of : ℕ → List ℕ
-orders_of = orders_below 64
+orders_of = members SET_LIMIT
 
 -- a seat that may be left out
 abbrev pub seat_data : Option ℕ → Data
@@ -103,3 +102,38 @@ game_data name options players =
 
 abbrev pub game_line : List ℕ → Options → List (List ℕ) → List ℕ
 game_line name options players = line (codes "game") (game_data name options players)
+
+-- how a game stands
+abbrev pub state_data : State → Data
+state_data s =
+    object (member (codes "current") (seat_data s.current) (member (codes "deck") (whole s.deck) (member (codes "score") (whole s.score)
+    (member (codes "stacks") (wholes_data s.stacks.items) (member (codes "strikes") (whole s.strikes)
+    (member (codes "tokens") (whole s.tokens) (member (codes "turn") (whole s.turn) no_members)))))))
+
+-- the line of a state
+abbrev pub state_line : State → List ℕ
+state_line s = line (codes "state") (state_data s)
+
+-- identity numbers as texts, one behind the other
+abbrev pub numbers_text : List ℕ → List ℕ
+numbers_text numbers = identities_text (map identity numbers)
+
+-- a card's order with a set of identity numbers, as a list
+abbrev pub listed : ℕ × ℕ → ℕ × List ℕ
+listed (order, set) = (order, members IDENTITIES set)
+
+-- a card's order with the identities of a list of numbers
+abbrev pub set_data : ℕ × List ℕ → Data
+set_data (order, numbers) = array (item (whole order) (item (string (numbers_text numbers)) no_items))
+
+-- cards, each with the identities that it can have
+abbrev pub sets_data : List (ℕ × List ℕ) → Data
+sets_data cards = array (items_of (map set_data cards))
+
+-- the cards of a seat's hand
+abbrev pub hand_data : ℕ → List (ℕ × List ℕ) → Data
+hand_data seat cards = object (member (codes "seat") (whole seat) (member (codes "sets") (sets_data cards) no_members))
+
+-- the line of a hand
+abbrev pub hand_line : ℕ → List (ℕ × List ℕ) → List ℕ
+hand_line seat cards = line (codes "hand") (hand_data seat cards)
