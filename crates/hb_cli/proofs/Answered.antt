@@ -1,8 +1,7 @@
 -- From what a command answers for a replay to why a run ends.
 use Rattle.std.proofs.Common.{◌≡◌, List, ℕ, inl, inr, sym, subst}
-use Rattle.std.specs.Prelude.{◌≢◌, ◌⊎◌, Option, Some, None, Result, IfSome, IfOk, IfErr, MatchResult}
+use Rattle.std.specs.Prelude.{◌≢◌, Option, Some, None, Result, IfSome, IfOk, IfErr, MatchResult}
 use Rattle.std.specs.declared.result.Result.TheVariants.{Ok as Okay, Err}
-use Rattle.std.specs.Io.KnownBytes.{Appends}
 use Rattle.hb_replay.specs.Reading.{IsReading}
 use Rattle.hb_replay.specs.Contents.{Contents}
 use Rattle.hb_cli.specs.declared.commands.Command.{Command}
@@ -11,12 +10,12 @@ use Rattle.hb_cli.specs.declared.status.Status.TheVariants as status
 use Rattle.hb_cli.specs.declared.status.Stop.{Stop}
 use Rattle.hb_cli.specs.declared.status.Stop.TheVariants as stop
 use Rattle.hb_cli.specs.Words.{command_of}
-use Rattle.hb_cli.specs.Outputs.{output}
-use Rattle.hb_cli.specs.Ends.{Answers, HasStop, IsAnswer, IsRefused, IsSaid, IsStop, IsUnwritten, status_of, stop_line}
+use Rattle.hb_cli.specs.Outputs.{Writes}
+use Rattle.hb_cli.specs.Ends.{Answers, HasStop, IsAnswer, IsRefused, IsSaid, IsStop, IsUnwritten}
 
 -- what is written for the replay that the bytes are, is the answer for the bytes
 pub answered : (command : Command) (bytes : List ℕ) (r : Contents) (result : Result (List ℕ) Stop) → IsReading bytes (Okay r)
-    → MatchResult result (λ text. output command r ≡ Some text) (IsUnwritten command r) → IsAnswer command bytes result
+    → MatchResult result (Writes command r) (IsUnwritten command r) → IsAnswer command bytes result
 answered command bytes r (Okay text) reading written = (r, reading, written)
 answered command bytes r (Err stop.NoSuchView) reading written = (r, reading, written)
 answered command bytes r (Err stop.NoMemory) reading written = tt

@@ -1,5 +1,5 @@
 -- How a run ends: what is written at each status, and why.
-use Rattle.std.specs.Prelude.{◌≡◌, ◌<◌, ◌⊎◌, ℕ, List, [], ◌∷◌, ◌++◌, Option, Some, None, Result, codes, decimal, length, take, IfSome}
+use Rattle.std.specs.Prelude.{◌≡◌, ◌<◌, ◌⊎◌, ℕ, List, ◌++◌, Option, Some, None, Result, codes, length, take, IfSome, IsFalse}
 use Rattle.std.specs.declared.result.Result.TheVariants.{Ok as Okay, Err}
 use Rattle.std.specs.Io.KnownBytes.{Appends}
 use Rattle.hb_replay.specs.Reading.{IsReading}
@@ -14,11 +14,11 @@ use Rattle.hb_cli.specs.declared.status.Stop.{Stop}
 use Rattle.hb_cli.specs.declared.status.Stop.TheVariants as stop
 use Rattle.hb_cli.specs.declared.work.TheConstants.{MOST_INPUT}
 use Rattle.hb_cli.specs.Words.{command_of}
-use Rattle.hb_cli.specs.Outputs.{output}
+use Rattle.hb_cli.specs.Outputs.{has_view, Writes}
 
 -- why a command writes nothing for a replay
 abbrev pub IsUnwritten : Command → Contents → Stop → Type 0
-IsUnwritten command r stop.NoSuchView = output command r ≡ None
+IsUnwritten command r stop.NoSuchView = IsFalse (has_view command r)
 IsUnwritten command r stop.NoMemory = Unit {0}
 IsUnwritten command r stop.Usage = ⊥
 IsUnwritten command r stop.ReadFault = ⊥
@@ -27,8 +27,8 @@ IsUnwritten command r (stop.Refused e) = ⊥
 
 -- what a command answers for these bytes: its text, or why there is none
 abbrev pub IsAnswer : Command → List ℕ → Result (List ℕ) Stop → Type 0
-IsAnswer command bytes (Okay text) = (r : Contents) × IsReading bytes (Okay r) × (output command r ≡ Some text)
-IsAnswer command bytes (Err stop.NoSuchView) = (r : Contents) × IsReading bytes (Okay r) × (output command r ≡ None)
+IsAnswer command bytes (Okay text) = (r : Contents) × IsReading bytes (Okay r) × Writes command r text
+IsAnswer command bytes (Err stop.NoSuchView) = (r : Contents) × IsReading bytes (Okay r) × IsFalse (has_view command r)
 IsAnswer command bytes (Err (stop.Refused e)) = IsReading bytes (Err e)
 IsAnswer command bytes (Err stop.NoMemory) = Unit {0}
 IsAnswer command bytes (Err stop.Usage) = ⊥
@@ -79,7 +79,7 @@ status_of stop.NoMemory = NoMemory
 
 -- the line on the error output for a cause
 abbrev pub stop_line : Stop → List ℕ
-stop_line stop.Usage = codes "usage\nwatch SEAT\ncheck\ncopy\n"
+stop_line stop.Usage = codes "usage\nwatch SEAT\nlook SEAT TURN\ncheck\ncopy\n"
 stop_line stop.ReadFault = codes "read fault\n"
 stop_line stop.TooLong = codes "input too long\n"
 stop_line (stop.Refused e) = refusal_text e ++ codes "\n"

@@ -1,27 +1,37 @@
 //! The work of a command, before anything is written.
 
-ghost use Rattle.std.specs.Prelude.{◌≡◌, ◌∷◌, [], ◌++◌, ◌<◌, map, IfErr, IfOk, IsErrOf, MatchResult, OnOk, Some, Ok};
+ghost use Rattle.std.specs.Prelude.{◌≡◌, ◌∷◌, [], ◌++◌, ◌<◌, ◌≤◌, length, map, IfErr, IfOk, IsErrOf, MatchResult, OnOk, Ok};
 ghost use Rattle.std.specs.Io.KnownBytes.{IsAtEnd};
 ghost use Rattle.hb_io.specs.Causes.{Rose};
 ghost use Rattle.hb_rules.specs.Events.{observation};
 ghost use Rattle.hb_replay.specs.Canonical.{canonical_text};
 ghost use Rattle.hb_wire.specs.Lines.{game_line};
 ghost use Rattle.hb_cli.specs.Ends.{Answers, IsAnswer, IsStop, IsUnwritten};
-ghost use Rattle.hb_cli.specs.Outputs.{check_text, only, output, watch_text};
+ghost use Rattle.hb_cli.specs.Outputs.{check_text, first_acts, only, watch_text, Writes};
+ghost use Rattle.hb_view.specs.Standing.{IsStanding};
 
 use crate::commands::Command;
 use crate::status::Stop;
-use crate::watch::{only_seat, push_events, push_line};
 use crate::words::command;
 use hb_io::{Bytes, ReadAll, Source, read_all};
 use hb_replay::{Replay, read, write};
-use hb_rules::EndHow;
+use hb_rules::{EndHow, MOST_PLAYERS};
+use hb_sight::Blind;
 use hb_turns::Game;
+use hb_view::{push_events, push_line, standing_lines};
 use hb_wire::game_text;
 use std::alloc::{AllocError, Global};
 
 /// The most bytes of input: 8 MiB (this server's limit).
 pub const MOST_INPUT: usize = 8_388_608;
+
+/// The blind set of one seat.
+fn only_seat(seat: u8) -> Blind
+    requires { seat < MOST_PLAYERS }
+    ensures { result.bits ≡ only seat }
+{
+    Blind::none().with(seat)
+}
 
 /// The line that begins a replay's game.
 fn titled(alloc: Global, replay: &Replay) -> Result<Bytes, AllocError>
@@ -40,7 +50,7 @@ fn titled(alloc: Global, replay: &Replay) -> Result<Bytes, AllocError>
 
 /// What `watch` writes.
 fn watched(alloc: Global, replay: &Replay, seat: u8) -> Result<Bytes, AllocError>
-    requires { seat < 6 }
+    requires { seat < MOST_PLAYERS }
     ensures { IfOk result (λ text. text ≡ watch_text replay.now.name replay.now.game.setup.options replay.now.players
         (observation (only seat) replay.now.game.setup replay.now.game.past)) }
 {
@@ -48,6 +58,16 @@ fn watched(alloc: Global, replay: &Replay, seat: u8) -> Result<Bytes, AllocError
     let game = replay.game();
     push_events(&mut out, alloc, only_seat(seat), &game)?;
     Ok(out)
+}
+
+/// What `look` writes.
+fn looked(alloc: Global, game: &Game, seat: u8, turn: u8) -> Result<Bytes, AllocError>
+    requires seat { seat < MOST_PLAYERS }
+    requires turn { turn ≤ length game.now.past }
+    ensures { IfOk result (λ text. IsStanding (only seat) game.now.setup.variant game.now.setup.options game.now.setup.players
+        (observation (only seat) game.now.setup (first_acts turn game.now.past)) text) }
+{
+    standing_lines(alloc, &game.prefix(usize::from(turn)), only_seat(seat))
 }
 
 /// What `check` writes.
@@ -73,7 +93,7 @@ fn copied(alloc: Global, replay: &Replay) -> Result<Bytes, AllocError>
 
 /// What a command writes for a replay.
 fn written(alloc: Global, command: Command, replay: &Replay) -> Result<Bytes, Stop>
-    ensures { MatchResult result (λ text. output command replay.now ≡ Some text) (IsUnwritten command replay.now) }
+    ensures { MatchResult result (Writes command replay.now) (IsUnwritten command replay.now) }
 {
     let game = replay.game();
     game.facts();
@@ -83,6 +103,12 @@ fn written(alloc: Global, command: Command, replay: &Replay) -> Result<Bytes, St
                 return Err(Stop::NoSuchView);
             }
             Ok(watched(alloc, replay, seat)?)
+        }
+        Command::Look { seat, turn } => {
+            if seat >= game.players() || usize::from(turn) > game.act_count() {
+                return Err(Stop::NoSuchView);
+            }
+            Ok(looked(alloc, &game, seat, turn)?)
         }
         Command::Check => Ok(checked(alloc, &game)?),
         Command::Copy => Ok(copied(alloc, replay)?),

@@ -28,12 +28,19 @@ discard {\"card\":\"b1\",\"order\":10,\"seat\":0}
 draw {\"card\":null,\"order\":11,\"seat\":0}
 ";
 
+/// How the game stands after these acts, and what Ann can tell of each hand: of her own, and of Bob's as Bob can tell it.
+const AFTER_THREE_ACTS_FOR_ANN: &str =
+    "state {\"current\":1,\"deck\":38,\"score\":1,\"stacks\":[1,0,0,0,0],\"strikes\":0,\"tokens\":8,\"turn\":3}
+hand {\"seat\":0,\"sets\":[[1,\"a1a2\"],[2,\"a1a2\"],[3,\"a1a2\"],[4,\"a1a2\"],[11,\"b1b2b3b4b5c1c2c3c4c5d1d2d3d4d5e1e2e3e4e5\"]]}
+hand {\"seat\":1,\"sets\":[[5,\"a1a2a3a4a5b1b2b3b4b5c1c2c3c4c5d1d2d3d4d5e1e2e3e4e5\"],[6,\"a1a2a3a4a5b1b2b3b4b5c1c2c3c4c5d1d2d3d4d5e1e2e3e4e5\"],[7,\"a1a2a3a4a5b1b2b3b4b5c1c2c3c4c5d1d2d3d4d5e1e2e3e4e5\"],[8,\"a1a2a3a4a5b1b2b3b4b5c1c2c3c4c5d1d2d3d4d5e1e2e3e4e5\"],[9,\"a1a2a3a4a5b1b2b3b4b5c1c2c3c4c5d1d2d3d4d5e1e2e3e4e5\"]]}
+";
+
 const THREE_ACTS: &str =
     "{\"target\":0,\"type\":0},{\"target\":0,\"type\":2,\"value\":0},{\"target\":10,\"type\":1}";
 
 const PLAIN: &str = "\"players\":[\"Ann\",\"Bob\"]";
 
-const USAGE: &str = "usage\nwatch SEAT\ncheck\ncopy\n";
+const USAGE: &str = "usage\nwatch SEAT\nlook SEAT TURN\ncheck\ncopy\n";
 
 /// The cards of suits, each in order of ranks, as a replay writes them.
 fn deck_text(alloc: Global, suits: u8) -> Result<String, AllocError> {
@@ -54,6 +61,20 @@ fn deck_text(alloc: Global, suits: u8) -> Result<String, AllocError> {
 fn replay_text(alloc: Global, actions: &str, others: &str) -> Result<String, AllocError> {
     let deck = deck_text(alloc, 5)?;
     format!(in alloc; "{{\"actions\":[{actions}],\"deck\":[{deck}],{others}}}")
+}
+
+/// The replay of the three acts with e5 as the card that Ann draws last, in place of b1. Ann can't tell the two apart.
+fn with_another_draw(alloc: Global, replay: &str) -> Result<String, AllocError> {
+    let (b1, e5) = (
+        "{\"rank\":1,\"suitIndex\":1}",
+        "{\"rank\":5,\"suitIndex\":4}",
+    );
+    let twice = format!(in alloc; "{b1},{b1}")?;
+    let mixed = format!(in alloc; "{b1},{e5}")?;
+    let last = format!(in alloc; "{e5}]")?;
+    let first = format!(in alloc; "{b1}]")?;
+    let drawn = replay.replacen(alloc, &twice, &mixed, 1)?;
+    drawn.replacen(alloc, &last, &first, 1)
 }
 
 /// The status, what was written, and what stands on the error output.
@@ -85,24 +106,26 @@ fn a_seat_is_shown_what_it_may_see(rt: HostRuntime) -> Result<(), Fail> {
     assert_eq!(rt; status, Status::Ok);
     assert_eq!(rt; out.as_str(), wanted.as_str());
 
-    // Another card in the deck, which Ann draws and does not see, changes nothing for her; Bob sees it.
-    let (b1, e5) = (
-        "{\"rank\":1,\"suitIndex\":1}",
-        "{\"rank\":5,\"suitIndex\":4}",
-    );
-    let twice = format!(in alloc; "{b1},{b1}")?;
-    let mixed = format!(in alloc; "{b1},{e5}")?;
-    let last = format!(in alloc; "{e5}]")?;
-    let first = format!(in alloc; "{b1}]")?;
-    let other = acts
-        .replacen(alloc, &twice, &mixed, 1)?
-        .replacen(alloc, &last, &first, 1)?;
+    let other = with_another_draw(alloc, &acts)?;
     let (_, hidden, _) = ran(&rt, &["watch", "0"], &other)?;
     assert_eq!(rt; hidden.as_str(), wanted.as_str());
     let (_, shown, _) = ran(&rt, &["watch", "1"], &acts)?;
     assert!(rt; shown.ends_with("draw {\"card\":\"b1\",\"order\":11,\"seat\":0}\n"));
     let (_, shown, _) = ran(&rt, &["watch", "1"], &other)?;
     assert!(rt; shown.ends_with("draw {\"card\":\"e5\",\"order\":11,\"seat\":0}\n"));
+    Ok(())
+}
+
+#[test]
+fn a_seat_is_shown_what_it_can_tell(rt: HostRuntime) -> Result<(), Fail> {
+    let alloc = rt.alloc();
+    let acts = replay_text(alloc, THREE_ACTS, PLAIN)?;
+    for replay in [&acts, &with_another_draw(alloc, &acts)?] {
+        let (status, out, err) = ran(&rt, &["look", "0", "3"], replay)?;
+        assert_eq!(rt; status, Status::Ok);
+        assert_eq!(rt; out.as_str(), AFTER_THREE_ACTS_FOR_ANN);
+        assert_eq!(rt; err.as_str(), "");
+    }
     Ok(())
 }
 
@@ -178,6 +201,18 @@ fn each_refusal_has_its_status_and_line(rt: HostRuntime) -> Result<(), Fail> {
             Status::NoSuchView,
             "no such view\n",
         ),
+        (
+            &["look", "0", "4"][..],
+            replay_text(alloc, THREE_ACTS, PLAIN)?.as_str(),
+            Status::NoSuchView,
+            "no such view\n",
+        ),
+        (
+            &["look", "2", "0"][..],
+            replay_text(alloc, "", PLAIN)?.as_str(),
+            Status::NoSuchView,
+            "no such view\n",
+        ),
         (&["watch", "0"][..], "", Status::Json, "not JSON\n"),
         (&["watch", "0"][..], "[]", Status::Replay, "replay 2 .\n"),
         (&[][..], "", Status::Usage, USAGE),
@@ -185,6 +220,9 @@ fn each_refusal_has_its_status_and_line(rt: HostRuntime) -> Result<(), Fail> {
         (&["watch", "01"][..], "", Status::Usage, USAGE),
         (&["watch", "--", "0"][..], "", Status::Usage, USAGE),
         (&["check", "0"][..], "", Status::Usage, USAGE),
+        (&["look", "0"][..], "", Status::Usage, USAGE),
+        (&["look", "0", "161"][..], "", Status::Usage, USAGE),
+        (&["look", "0", "00"][..], "", Status::Usage, USAGE),
     ] {
         let (status, out, err) = ran(&rt, words, input)?;
         assert_eq!(rt; status, wanted);

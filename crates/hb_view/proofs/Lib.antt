@@ -1,0 +1,4 @@
+pub mod EventLines
+pub mod SeenState
+pub mod PossibleLists
+pub mod Once
