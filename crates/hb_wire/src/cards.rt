@@ -5,14 +5,14 @@ ghost use Rattle.serde_json.specs.View.{view};
 ghost use Rattle.hb_rules.specs.Cards.{in_range};
 ghost use Rattle.hb_wire.specs.Lines.{card_data, identities_text as identities_text_of, identity_text as identity_text_of};
 
-use hb_rules::Identity;
+use hb_rules::{HIGHEST_RANK, Identity, MOST_SUITS};
 use serde_json::Value;
 use std::alloc::{AllocError, Global};
 
 fn is_in_range(id: Identity) -> bool
     ensures { result ≡ in_range id }
 {
-    id.suit < 6 && 1 <= id.rank && id.rank < 6
+    usize::from(id.suit) < MOST_SUITS && (1..=HIGHEST_RANK).contains(&id.rank)
 }
 
 /// Appends the two characters of an identity, or `?` of a pair that is none.
