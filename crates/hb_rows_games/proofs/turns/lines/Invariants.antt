@@ -1,5 +1,5 @@
 use Rattle.std.proofs.Common.{◌≡◌, ◌-◌, length, drop}
-use Rattle.hb_rows.proofs.turns.lines.Given as goal
+use Rattle.hb_rows_games.proofs.turns.lines.Given as goal
 
 -- the game that goes on is that of the acts so far
 abbrev pub invariant-loop-i : goal.invariant-loop-i
