@@ -1,17 +1,12 @@
 -- A list is a deck exactly where the variant has all its cards, and each identity with a number stands in it as often as there are copies.
-use Rattle.std.proofs.Common.{◌≡◌, ℕ, ◌+◌, ◌<◌, ◌≤◌, Bool, true, false, cond, List, [], ◌∷◌, refl, arith, length, ap, sym, ◌∙◌, zero, suc, subst}
-use Rattle.std.specs.Prelude.{All, slice_index_or, ◌==◌, nat_lt}
+use Rattle.std.proofs.Common.{◌≡◌, ℕ, ◌+◌, ◌<◌, ◌≤◌, Bool, true, false, cond, List, [], ◌∷◌, refl, arith, ap, sym, ◌∙◌, zero, suc, subst}
+use Rattle.std.specs.Prelude.{All, slice_index_or}
 use Rattle.std.proofs.lemmas.List.Sums.{get_or-le-sum_by, sum_by-cons}
 use Rattle.hb_rules.specs.declared.suits.Identity.{Identity}
 use Rattle.hb_rules.specs.declared.variants.Variant.{Variant}
 use Rattle.hb_rules.specs.Cards.{IsDeck, copies, count_of, identity, number, same_identity}
+use Rattle.hb_rules.proofs.Identities.{same_identity-refl, same_identity-true}
 use Rattle.hb_rules.proofs.Numbers.{copies-in_range, identity-number}
-
-same_identity-refl : (id : Identity) → same_identity id id ≡ true
-same_identity-refl id = grind arith
-
-same_identity-true : (a b : Identity) → same_identity a b ≡ true → a ≡ b
-same_identity-true a b h = grind arith
 
 -- the variant has each card of a deck
 pub All-deck : (v : Variant) (deck : List Identity) → IsDeck v deck → All (λ id. 0 < copies v id) deck

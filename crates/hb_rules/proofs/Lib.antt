@@ -7,6 +7,7 @@ pub mod HandSize
 pub mod Undrawn
 pub mod Touched
 pub mod Heights
+pub mod Identities
 pub mod Decks
 pub mod DeckSize
 pub mod Numbers

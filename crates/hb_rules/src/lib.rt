@@ -1,10 +1,11 @@
 //! The rules of Hanabi: the plain types that they speak of, and the definitions that every contract above cites.
 //!
-//! There is no code here but derived functions. `specs/` holds the definitions, in the order in which a reader needs
-//! them: `Suits` (what a variant is), `Cards` (copies and decks), `Touch` (clues), `Setup`, `Start`, `Hands`, `Result`
-//! (stacks, tokens, strikes, the end), `Legality` (which rule an act breaks), `Events` (what is told, and what a blind
-//! set sees of it), `Deals` (which identities an observation leaves possible) and `Marks` (which identities the clues
-//! allow). `proofs/` holds the laws of these definitions that several crates use, and worked games computed on them.
+//! There is little code here: the limits, the default options, and the numbers by which ends and rules are written.
+//! `specs/` holds the definitions, in the order in which a reader needs them: `Suits` (what a variant is), `Cards` (copies
+//! and decks), `Touch` (clues), `Setup`, `Start`, `Hands`, `Result` (stacks, tokens, strikes, the end), `Legality` (which
+//! rule an act breaks), `Events` (what is told, and what a blind set sees of it), `Deals` (which identities an observation
+//! leaves possible), `Marks` (which identities the clues allow) and `Numbers` (how ends and rules are written). `proofs/`
+//! holds the laws of these definitions that several crates use, and worked games computed on them.
 #![tactic(auto)]
 
 pub mod acts;
@@ -17,8 +18,9 @@ pub mod variants;
 pub use acts::{Act, Action, Clue, EndHow, Options, Rule, StartError};
 pub use events::Event;
 pub use limits::{
-    DEFAULT_BASE_SECONDS, DEFAULT_TURN_SECONDS, FULL_TOKENS, HIGHEST_RANK, IDENTITIES, MOST_ACTS,
-    MOST_CARDS, MOST_HAND, MOST_PLAYERS, MOST_SECONDS, MOST_SUITS, STRIKES_TO_LOSE,
+    DEFAULT_BASE_SECONDS, DEFAULT_TURN_SECONDS, FEWEST_PLAYERS, FULL_TOKENS, HIGHEST_RANK,
+    IDENTITIES, MOST_ACTS, MOST_CARDS, MOST_HAND, MOST_PLAYERS, MOST_SECONDS, MOST_SUITS,
+    STRIKES_TO_LOSE,
 };
 pub use setups::Setup;
 pub use suits::{Identity, Kind, Special, Suit};

@@ -1,5 +1,5 @@
 -- What `variant` answers, by what is found.
-use Rattle.std.proofs.Common.{◌≡◌, ◌≢◌, ◌↔◌, ℕ, Bool, true, false, List, [], ◌∷◌, Option, Some, None, Result, Ok, Err, refl, arith, ap, sym, ◌∙◌, IfOk, OnErr}
+use Rattle.std.proofs.Common.{◌≡◌, ◌≢◌, ◌↔◌, ℕ, Bool, true, false, List, [], ◌∷◌, Option, Some, None, Err, refl, arith, ap, sym, ◌∙◌, IfOk, OnErr}
 use Rattle.std.specs.Prelude.{◌==◌, is_some, map}
 use Rattle.std.specs.List.{join_with_byte}
 use Rattle.hb_rules.specs.declared.suits.Suit.{Suit}

@@ -1,7 +1,7 @@
 -- Spelled names are the names of suits joined by `+`, in both directions.
-use Rattle.std.proofs.Common.{◌≡◌, ℕ, ◌<◌, Bool, true, false, List, [], ◌∷◌, ◌++◌, Option, Some, None, refl, length, get_or, ap, ◌∙◌, sym}
-use Rattle.std.specs.Prelude.{◌==◌, ◌&&◌, not, map, filter_map, find, is_some, All}
-use Rattle.std.specs.List.{list_all, slice_split, join_with_byte}
+use Rattle.std.proofs.Common.{◌≡◌, ℕ, Bool, true, false, List, [], ◌∷◌, Option, Some, None, refl, get_or, ap, ◌∙◌, sym}
+use Rattle.std.specs.Prelude.{◌==◌, not, map, filter_map, is_some, All}
+use Rattle.std.specs.List.{list_all, join_with_byte}
 use Rattle.std.specs.Str.{bytes_eq}
 use Rattle.std.proofs.lemmas.List.Sums.{AllPass-from_list_all}
 use Rattle.std.proofs.lemmas.List.Splits.{slice_split_none, slice_split_at, join_with_byte-slice_split}

@@ -1,12 +1,11 @@
 -- Spelled names: what follows from a part of the pieces, and from all of them.
-use Rattle.std.proofs.Common.{◌≡◌, ℕ, ◌<◌, ◌≤◌, Bool, true, false, List, [], ◌∷◌, Option, Some, None, refl, arith, ◌+◌, length, get_or, ap, ◌∙◌, ◌++◌, sym, take, set, Bor}
-use Rattle.std.specs.Prelude.{map, filter_map, is_some, nat_le, ◌&&◌}
-use Rattle.std.specs.List.{list_all, list_any, cons_option}
+use Rattle.std.proofs.Common.{◌≡◌, ℕ, ◌<◌, Bool, true, false, List, [], ◌∷◌, Option, Some, None, refl, arith, ◌+◌, length, get_or, ◌++◌, take, set, Bor}
+use Rattle.std.specs.Prelude.{map, filter_map, is_some, ◌&&◌}
+use Rattle.std.specs.List.{cons_option}
 use Rattle.std.proofs.lemmas.List.{take_more_set}
 use Rattle.std.proofs.lemmas.List.Folds.{list_all_at}
 use Rattle.hb_rules.specs.declared.suits.Suit.{Suit}
-use Rattle.hb_rules.specs.declared.variants.Variant.{Variant}
-use Rattle.hb_rules.specs.Suits.{is_variant, all_different, has_color, kind_of, stands_over}
+use Rattle.hb_rules.specs.Suits.{is_variant}
 use Rattle.hb_suits.specs.Variants.{placed, variant_with}
 use Rattle.hb_suits.specs.Names.{suit_named, pieces, are_suits, spelled}
 use Rattle.hb_suits.proofs.Places.{variant_with-none, is_variant-few}

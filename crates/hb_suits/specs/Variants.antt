@@ -1,5 +1,5 @@
 -- The variant that a list of suits makes.
-use Rattle.std.specs.Prelude.{◌≡◌, ℕ, ◌-◌, Bool, true, false, List, ◌++◌, Option, Some, None, map, replicate, length, refl}
+use Rattle.std.specs.Prelude.{◌≡◌, ◌-◌, Bool, true, false, List, ◌++◌, Option, Some, None, map, replicate, length, refl}
 use Rattle.hb_rules.specs.declared.suits.Suit.{Suit}
 use Rattle.hb_rules.specs.declared.suits.Special.{Special}
 use Rattle.hb_rules.specs.declared.variants.Variant.{Variant}

@@ -21,8 +21,8 @@ fn rank_copies(suit: Option<Suit>, rank: u8) -> u8
     }
 }
 
-/// Whether the pair is an identity of some variant.
-fn in_range(id: Identity) -> bool
+/// Whether the pair is an identity of some variant: a suit index of 0 to 5 and a rank of 1 to 5.
+pub fn in_range(id: Identity) -> bool
     ensures { result ≡ in_range id }
 {
     usize::from(id.suit) < MOST_SUITS && (1..=HIGHEST_RANK).contains(&id.rank)

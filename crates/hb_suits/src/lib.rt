@@ -14,7 +14,7 @@ mod numbers;
 mod suits;
 mod variants;
 
-pub use cards::{copies, deck_size, identities};
+pub use cards::{copies, deck_size, identities, in_range};
 pub use hb_rules::{Identity, Kind, Special, Suit, Variant};
 pub use names::{VariantError, variant};
 pub use numbers::{identity, number};

@@ -1,3 +1,5 @@
+//! The calls that a timer accepted, for contracts alone.
+
 ghost use Rattle.std.specs.Prelude.{◌≡◌, [], ◌∷◌};
 
 use crate::timing::TimerCall;

@@ -1,3 +1,5 @@
+//! The banks and the moment that a timer keeps, and how time passes on them.
+
 ghost use Rattle.std.specs.Prelude.{◌≡◌, ◌<◌, ◌≤◌, ◌-◌, slice_index, IsTrue};
 
 use crate::timing::MOST_SEATS;

@@ -1,3 +1,5 @@
+//! The timer: its calls and its readers.
+
 ghost use Rattle.std.specs.Prelude.{◌≡◌, ◌<◌, ◌≤◌, [], ◌∷◌, IsTrue, IsFalse, IfSome};
 ghost use Rattle.hb_timer.specs.Banks.{bank, deadline, is_running, is_stopped, state_of, IsOnTime, RunsOutAt};
 

@@ -1,3 +1,5 @@
+//! What a timer is made with, the calls that contracts list, and the limits.
+
 /// The most seats that a timer can have. The fewest are two.
 pub const MOST_SEATS: usize = 6;
 

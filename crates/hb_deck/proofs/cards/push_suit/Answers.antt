@@ -1,4 +1,4 @@
-use Rattle.std.proofs.Common.{◌≡◌, ◌+◌, ◌-◌, ◌++◌, ap, arith, ◌∙◌, sym, append_assoc}
+use Rattle.std.proofs.Common.{◌≡◌, ◌+◌, ◌-◌, ◌++◌, ap, arith, ◌∙◌, append_assoc}
 use Rattle.hb_deck.proofs.Ordered.{cards_to, cards_to-more}
 use Rattle.hb_deck.proofs.cards.push_suit.Goals as goal
 

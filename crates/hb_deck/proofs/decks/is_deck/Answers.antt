@@ -1,5 +1,5 @@
 use Rattle.hb_rules.specs.Cards.{identity}
-use Rattle.hb_deck.proofs.Counts.{All-deck, IsDeck-counted}
+use Rattle.hb_deck.proofs.Counts.{IsDeck-counted}
 use Rattle.hb_deck.proofs.decks.is_deck.Goals as goal
 
 pub returns-then-are_in_variant : goal.returns-then-are_in_variant

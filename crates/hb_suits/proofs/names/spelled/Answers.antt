@@ -1,11 +1,10 @@
-use Rattle.std.proofs.Common.{◌≡◌, true, Some, arith, length, refl, sym, ap, ◌∙◌, lit<}
-use Rattle.std.specs.Prelude.{filter_map}
+use Rattle.std.proofs.Common.{◌≡◌, true, arith, length, sym, ◌∙◌, lit<}
 use Rattle.std.proofs.lemmas.List.{length_push}
 use Rattle.std.proofs.lemmas.Iterator.Splits.{YieldsList-from_str_split}
 use Rattle.std.proofs.lemmas.Iterator.Consumers.{YieldsList-turn, YieldsList-end}
 use Rattle.std.proofs.Math.ListN.{length-set}
 use Rattle.hb_rules.specs.declared.suits.Suit.{Suit}
-use Rattle.hb_suits.specs.Names.{suit_named, are_suits, pieces}
+use Rattle.hb_suits.specs.Names.{are_suits, pieces}
 use Rattle.hb_suits.proofs.Spellings.{spelled-unnamed, spelled-long, spelled-named, are_suits-push, named-push}
 use Rattle.hb_suits.proofs.names.spelled.Goals as goal
 
