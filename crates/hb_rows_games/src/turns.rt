@@ -241,7 +241,7 @@ fn keeps_hands(rt: HostRuntime) -> Result<(), Fail> {
         (None, Some(1), None)
     );
     assert_eq!(rt;
-        (game.drawn(0, play(2)), game.drawn(0, rank(1, 4))),
+        (game.drawn(play(2)), game.drawn(rank(1, 4))),
         (Some(17), None)
     );
     if offers(game.variant(), Clue::Rank(4)) {

@@ -1,14 +1,13 @@
 -- What an act that breaks no rule needs, and what it leaves.
-use Rattle.std.proofs.Common.{◌≡◌, ℕ, ◌<◌, ◌≤◌, List, [], ◌∷◌, ◌++◌, length, Some, None, Option, Bool, true, false, arith, reverse}
+use Rattle.std.proofs.Common.{◌≡◌, ℕ, ◌<◌, ◌≤◌, List, [], ◌∷◌, ◌++◌, length, Some, None, true, false, arith, reverse}
 use Rattle.std.specs.Prelude.{is_some, nat_lt, nat_le, ◌&&◌}
-use Rattle.std.proofs.lemmas.List.{length-reverse, reverse-append}
+use Rattle.std.proofs.lemmas.List.{reverse-append}
 use Rattle.hb_rules.specs.declared.acts.Act.{Act}
 use Rattle.hb_rules.specs.declared.acts.Action.{Action}
 use Rattle.hb_rules.specs.declared.acts.Action.TheVariants as action
 use Rattle.hb_rules.specs.declared.acts.Clue.{Clue}
 use Rattle.hb_rules.specs.declared.acts.EndHow.{EndHow}
 use Rattle.hb_rules.specs.declared.setups.Setup.{Setup}
-use Rattle.hb_rules.specs.Cards.{in_range}
 use Rattle.hb_rules.specs.Setup.{card}
 use Rattle.hb_rules.specs.Hands.{holder, is_at}
 use Rattle.hb_rules.specs.Result.{ended, called}

@@ -1,7 +1,6 @@
 -- The word that has the bits of a list.
-use Rattle.std.proofs.Common.{◌≡◌, ℕ, ◌+◌, ◌*◌, ◌%◌, ◌<◌, ◌≤◌, ◌^◌, Bool, true, false, cond, max, List, [], ◌∷◌, ◌++◌, refl, arith, append-nil, sym, ap, ◌∙◌, length, take}
-use Rattle.std.specs.Prelude.{◌==◌, bit_or, filter, if◌then◌else◌, slice_index}
-use Rattle.std.specs.Int.{bit_at}
+use Rattle.std.proofs.Common.{◌≡◌, ℕ, ◌+◌, ◌*◌, ◌%◌, ◌<◌, ◌^◌, Bool, true, false, List, [], ◌∷◌, ◌++◌, refl, arith, append-nil, sym, ap, ◌∙◌, length, take}
+use Rattle.std.specs.Prelude.{◌==◌, bit_or, filter, slice_index}
 use Rattle.std.specs.Int.Bits.{or_zero_l, or_zero_r}
 use Rattle.std.proofs.lemmas.Nat.{pow_pos, le_or_l, one_shl}
 use Rattle.std.proofs.lemmas.Nat.Bits.{bit_at_or, same_from_bits}

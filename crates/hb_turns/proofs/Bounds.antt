@@ -1,6 +1,6 @@
 -- Bounds on what a legal history counts: it is short, at most eight tokens are held, and at most three strikes were made.
-use Rattle.std.proofs.Common.{◌≡◌, ℕ, ◌+◌, ◌-◌, ◌*◌, ◌/◌, ◌%◌, ◌<◌, ◌≤◌, Bool, true, false, cond, List, [], ◌∷◌, refl, ap, arith, sym, ◌∙◌, length, Some, None, Option}
-use Rattle.std.specs.Prelude.{◌==◌, ◌&&◌, nat_lt, if◌then◌else◌, slice_index, is_some, count_by}
+use Rattle.std.proofs.Common.{◌≡◌, ℕ, ◌+◌, ◌*◌, ◌/◌, ◌%◌, ◌<◌, ◌≤◌, Bool, true, false, List, [], ◌∷◌, refl, arith, length, Some, None, Option}
+use Rattle.std.specs.Prelude.{◌==◌, if◌then◌else◌, slice_index, is_some}
 use Rattle.std.proofs.lemmas.List.{get_or_past}
 use Rattle.std.proofs.lemmas.List.Sums.{count_by-le-length}
 use Rattle.hb_rules.specs.declared.acts.Act.{Act}
@@ -11,7 +11,7 @@ use Rattle.hb_rules.specs.Cards.{same_identity, identity}
 use Rattle.hb_rules.specs.Marks.{gone_copies}
 use Rattle.hb_rules.specs.Setup.{card, deal_size}
 use Rattle.hb_rules.specs.Hands.{removed, left}
-use Rattle.hb_rules.specs.Result.{height, lost, lost_copies, lost_by, turns, tokens, strikes, emptied, or_else, ended, called, end_by_play, is_last_round_over, fits}
+use Rattle.hb_rules.specs.Result.{height, lost, lost_copies, lost_by, turns, tokens, strikes, emptied, or_else, ended, called, is_last_round_over}
 use Rattle.hb_rules.specs.Legality.{Legal, rule}
 use Rattle.hb_rules.proofs.Rules.{may_runs, may_discard, may_clue, MayClue}
 use Rattle.hb_rules.proofs.Heights.{height-le, turns-le, strikes-le, tokens-le}

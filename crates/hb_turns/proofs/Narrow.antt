@@ -1,8 +1,7 @@
 -- A clue narrows the marks of one order after another.
-use Rattle.std.proofs.Common.{◌≡◌, ◌≢◌, ℕ, ◌+◌, ◌<◌, ◌≤◌, ⊎_elim, Bool, true, false, List, refl, ap, arith, sym, ◌∙◌, length, Some, None, Option, min, subst}
+use Rattle.std.proofs.Common.{◌≡◌, ◌≢◌, ℕ, ◌+◌, ◌<◌, ⊎_elim, Bool, true, false, List, refl, arith, length, Some, None, Option, min, subst}
 use Rattle.std.specs.Option.{option_eq}
 use Rattle.std.specs.Prelude.{eqb, ◌==◌, ◌&&◌, nat_lt, if◌then◌else◌, slice_index, slice_index_or, slice_set}
-use Rattle.std.proofs.lemmas.Grind.{common_steps}
 use Rattle.std.proofs.lemmas.Bool.{cases_eq}
 use Rattle.std.proofs.lemmas.List.{length-set, get_or-set_same, get_or-set_other}
 use Rattle.hb_rules.specs.declared.acts.Clue.{Clue}
@@ -14,7 +13,6 @@ use Rattle.hb_rules.specs.Touch.{touches}
 use Rattle.hb_rules.specs.Hands.{is_at}
 use Rattle.hb_rules.specs.Marks.{same}
 use Rattle.hb_sets.specs.Sets.{bit}
-use Rattle.hb_sets.proofs.Bits.{bit-lt}
 use Rattle.hb_turns.specs.Steps.{IsNarrowed}
 
 -- the test of a holder against a seat

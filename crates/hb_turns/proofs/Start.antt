@@ -1,10 +1,10 @@
 -- A game before its first act.
-use Rattle.std.proofs.Common.{ap, ◌∙◌, ◌≡◌, ℕ, ◌+◌, ◌*◌, ◌<◌, ◌≤◌, ◌/◌, Bool, true, false, List, [], ◌∷◌, refl, arith, length, Some, None, Option, zero, suc, replicate, reverse, subst, sym}
+use Rattle.std.proofs.Common.{ap, ◌∙◌, ◌≡◌, ℕ, ◌+◌, ◌<◌, ◌≤◌, Bool, true, List, refl, arith, length, Some, None, Option, zero, suc, replicate, reverse}
 use Rattle.std.specs.Bool.{then_some}
 use Rattle.std.specs.Prelude.{◌-◌, ◌==◌, slice_index, slice_index_or, nat_lt, nat_le, ◌&&◌, if◌then◌else◌}
 use Rattle.hb_rules.specs.declared.suits.Identity.{Identity}
 use Rattle.hb_rules.specs.declared.setups.Setup.{Setup}
-use Rattle.hb_rules.specs.Setup.{card, deal_size}
+use Rattle.hb_rules.specs.Setup.{card}
 use Rattle.hb_rules.specs.declared.acts.Act.{Act}
 use Rattle.hb_turns.specs.declared.table.Table.{Table}
 use Rattle.hb_rules.specs.Start.{CanStart}

@@ -1,5 +1,5 @@
 -- The table after an act is the table of the longer history.
-use Rattle.std.proofs.Common.{◌≡◌, ℕ, ◌+◌, ◌-◌, ◌*◌, ◌<◌, ◌≤◌, Bool, true, false, cond, List, [], ◌∷◌, refl, ap, arith, sym, ◌∙◌, length, Some, None, Option}
+use Rattle.std.proofs.Common.{◌≡◌, ℕ, ◌+◌, ◌*◌, ◌<◌, ◌≤◌, Bool, true, false, List, ◌∷◌, refl, ap, arith, sym, ◌∙◌, length, Some, None, Option}
 use Rattle.std.specs.Prelude.{◌==◌, ◌&&◌, nat_lt, if◌then◌else◌, slice_index, slice_index_or, slice_set, count_by}
 use Rattle.std.proofs.lemmas.Grind.{common_steps}
 use Rattle.std.proofs.lemmas.List.{length-set}
@@ -8,15 +8,14 @@ use Rattle.hb_rules.specs.declared.acts.Act.{Act}
 use Rattle.hb_rules.specs.declared.acts.Action.TheVariants as action
 use Rattle.hb_rules.specs.declared.acts.Clue.{Clue}
 use Rattle.hb_rules.specs.declared.acts.EndHow.{EndHow}
-use Rattle.hb_rules.specs.declared.suits.Identity.{Identity}
 use Rattle.hb_rules.specs.declared.setups.Setup.{Setup}
-use Rattle.hb_rules.specs.Cards.{same_identity, number, identity, has_number, in_range}
+use Rattle.hb_rules.specs.Cards.{same_identity, identity, has_number, in_range}
 use Rattle.hb_rules.specs.Setup.{card, deal_size}
 use Rattle.hb_rules.specs.Touch.{touches}
-use Rattle.hb_rules.specs.Hands.{removed, holder, is_at, left}
-use Rattle.hb_rules.specs.Result.{height, raised, fits, lost, lost_copies, turns, tokens, strikes, emptied, or_else, called}
+use Rattle.hb_rules.specs.Hands.{removed, holder, is_at}
+use Rattle.hb_rules.specs.Result.{height, raised, fits, lost, turns, tokens, strikes, called}
 use Rattle.hb_rules.specs.Legality.{Legal}
-use Rattle.hb_rules.specs.Marks.{is_marked, meets, same}
+use Rattle.hb_rules.specs.Marks.{meets, same}
 use Rattle.hb_rules.proofs.Hands.{holder-past}
 use Rattle.hb_rules.proofs.Undrawn.{holder-play, holder-discard}
 use Rattle.hb_sets.specs.Sets.{bit}

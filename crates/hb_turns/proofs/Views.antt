@@ -1,5 +1,5 @@
 -- What callers see of a game, and its fields: a fact about the one is a fact about the other.
-use Rattle.std.proofs.Common.{◌≡◌, ℕ, ◌<◌, ◌≤◌, List, length, Some, None, Option, Bool, true, false, subst, sym, arith, reverse, ◌+◌, ◌-◌, [], ◌∷◌, zero, suc, drop, ap, ◌∙◌, refl}
+use Rattle.std.proofs.Common.{◌≡◌, ℕ, ◌<◌, List, length, None, Bool, true, subst, sym, arith, reverse, ◌+◌, ◌-◌, [], ◌∷◌, zero, suc, drop, ap, ◌∙◌}
 use Rattle.std.specs.Prelude.{is_some, filter, slice_index, slice_index_or, All}
 use Rattle.std.proofs.Math.Seq.{drop-cons}
 use Rattle.std.specs.List.{range_with_len}
@@ -16,7 +16,6 @@ use Rattle.hb_rules.specs.declared.acts.Act.{Act}
 use Rattle.hb_rules.specs.declared.acts.Action.{Action}
 use Rattle.hb_rules.specs.declared.setups.Setup.{Setup}
 use Rattle.hb_rules.specs.Setup.{Position}
-use Rattle.hb_rules.specs.Result.{ended}
 use Rattle.hb_rules.specs.Legality.{rule, Legal}
 use Rattle.hb_turns.specs.Kept.{IsFair}
 use Rattle.hb_turns.proofs.Fair.{held-below}

@@ -1,5 +1,5 @@
 -- What is kept of a game: a setup that may be played with, and a table that is that of the acts.
-use Rattle.std.specs.Prelude.{◌==◌, ◌≡◌, ℕ, ◌+◌, ◌*◌, ◌<◌, ◌≤◌, List, Option, None, length, slice_index, slice_index_or}
+use Rattle.std.specs.Prelude.{◌==◌, ◌≡◌, ℕ, ◌+◌, ◌*◌, ◌<◌, ◌≤◌, List, None, length, slice_index, slice_index_or}
 use Rattle.hb_rules.specs.declared.acts.Act.{Act}
 use Rattle.hb_rules.specs.declared.setups.Setup.{Setup}
 use Rattle.hb_rules.specs.Cards.{IsDeck}

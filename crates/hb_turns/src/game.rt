@@ -15,8 +15,8 @@ use crate::table::Table;
 use arrayvec::ArrayVec;
 use hb_deck::is_deck;
 use hb_rules::{
-    Act, Action, EndHow, Identity, MOST_ACTS, MOST_PLAYERS, MOST_SECONDS, Options, Rule, Setup,
-    StartError, Variant,
+    Act, Action, EndHow, FEWEST_PLAYERS, Identity, MOST_ACTS, MOST_PLAYERS, MOST_SECONDS, Options,
+    Rule, Setup, StartError, Variant,
 };
 use std::marker::Model;
 
@@ -50,15 +50,14 @@ impl Model for Game {
     ghost invariant = { λ a. IsGame a.setup (reverse a.acts.items) a.table };
 }
 
-/// The fewest players of a game (rulebook).
-const FEWEST_PLAYERS: u8 = 2;
-
+/// Whether there are 2 to 6 players.
 fn are_players(players: u8) -> bool
     ensures { result ≡ are_players players }
 {
     (FEWEST_PLAYERS..=MOST_PLAYERS).contains(&players)
 }
 
+/// Whether the starting player is a seat, not both card options are set, and no time is above a million seconds.
 fn are_options(players: u8, options: &Options) -> bool
     ensures { result ≡ are_options players options.now }
 {
@@ -147,7 +146,7 @@ impl Game {
         if let Some(rule) = self.broken(who, action) {
             return Err(rule);
         }
-        let drawn = self.drawn(who, action);
+        let drawn = self.drawn(action);
         self.apply(who, action);
         Ok(Outcome {
             drawn,

@@ -11,7 +11,7 @@ use crate::deals::{deal_size, dealt};
 use hb_rules::{
     Clue, EndHow, FULL_TOKENS, HIGHEST_RANK, IDENTITIES, Identity, MOST_CARDS, MOST_SUITS, Setup,
 };
-use hb_suits::identities;
+use hb_suits::{identities, number};
 use marks::narrow;
 
 /// What a game keeps of its acts, so that no call goes through them again.
@@ -39,15 +39,6 @@ pub struct Table {
     pub emptied: Option<u8>,
     /// The end that the last act called.
     pub called: Option<EndHow>,
-}
-
-/// The number of an identity, as an index.
-fn index(id: Identity) -> usize
-    requires { in_range id ≡ true }
-    ensures number { result ≡ number id }
-    ensures below { result < IDENTITIES }
-{
-    (id.suit * HIGHEST_RANK + (id.rank - 1)) as usize
 }
 
 impl Table {
@@ -103,7 +94,7 @@ impl Table {
         requires room { HasRoom self.old }
         ensures { self.new ≡ lost_card self.old id }
     {
-        self.lost[index(id)] += 1;
+        self.lost[usize::from(number(id))] += 1;
     }
 
     /// A turn in which a card leaves the seat's hand, and the next one comes into it while the deck has one.
@@ -119,7 +110,7 @@ impl Table {
             self.holders[next] = Some(who);
         }
         self.holders[order as usize] = None;
-        self.gone[index(setup.deck[order as usize])] += 1;
+        self.gone[usize::from(number(setup.deck[order as usize]))] += 1;
         self.removed += 1;
         self.turns += 1;
         if next + 1 == setup.deck.len() {

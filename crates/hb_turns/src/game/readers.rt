@@ -236,9 +236,9 @@ impl Game {
         }
     }
 
-    /// The order that the action would draw: the next card, for a play or discard while the deck has one.
-    pub fn drawn(&self, who: u8, action: Action) -> Option<u8>
-        ensures { result ≡ drawn_by self.now.setup self.now.past (record { who = who; action = action }) }
+    /// The order that the action would draw, whoever takes it: the next card, for a play or discard while the deck has one.
+    pub fn drawn(&self, action: Action) -> Option<u8>
+        ensures { (who : ℕ) → result ≡ drawn_by self.now.setup self.now.past (record { who = who; action = action }) }
     {
         let draws = matches!(action, Action::Play { .. } | Action::Discard { .. });
         let next = self.next_order();

@@ -7,7 +7,7 @@ ghost use Rattle.hb_rules.specs.Result.{height, turns as turns_of, ended as ende
 
 use crate::Game;
 use hb_rules::{EndHow, HIGHEST_RANK, IDENTITIES, Identity, MOST_SUITS, STRIKES_TO_LOSE};
-use hb_suits::{copies, suit_count};
+use hb_suits::{copies, number, suit_count};
 
 impl Game {
     /// How the game ended; none while it runs. A called end comes first, then the third strike, and then the two normal
@@ -76,10 +76,10 @@ impl Game {
             suit,
             rank: height + 1,
         };
-        self.table.lost[(suit * HIGHEST_RANK + height) as usize]
-            == copies(&self.setup.variant, next)
+        self.table.lost[usize::from(number(next))] == copies(&self.setup.variant, next)
     }
 
+    /// No suit can grow: each is complete, or all copies of its next card are on the discards.
     fn are_all_stuck(&self) -> bool
         ensures { result ≡ list_all (is_stuck_suit self.now.setup self.now.past)
             (range_with_len 0 (suit_count self.now.setup.variant)) }

@@ -1,7 +1,5 @@
-use Rattle.std.proofs.Common.{arith, ◌≡◌, ◌<◌, length, reverse, refl, None, true}
+use Rattle.std.proofs.Common.{arith, ◌<◌, length, reverse, refl}
 use Rattle.std.proofs.lemmas.List.{length-reverse}
-use Rattle.hb_rules.specs.declared.acts.Action.TheVariants as action
-use Rattle.hb_rules.specs.Legality.{rule}
 use Rattle.hb_rules.proofs.Rules.{may_clue, MayClue}
 use Rattle.hb_turns.proofs.Views.{may-inside}
 use Rattle.hb_turns.proofs.Acts.{IsReady, ready, play-card, discard-card, after-play, after-discard, after-clue, after-end}

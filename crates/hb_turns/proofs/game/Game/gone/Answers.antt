@@ -1,4 +1,4 @@
-use Rattle.std.proofs.Common.{arith, ◌≡◌, reverse}
+use Rattle.std.proofs.Common.{reverse}
 use Rattle.hb_turns.proofs.Bounds.{gone-at}
 use Rattle.hb_turns.proofs.game.Game.gone.Goals as goal
 

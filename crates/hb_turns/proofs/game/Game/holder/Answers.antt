@@ -1,4 +1,4 @@
-use Rattle.std.proofs.Common.{arith, ◌≡◌, ◌≤◌, length, sym, ◌∙◌, reverse}
+use Rattle.std.proofs.Common.{arith, ◌≤◌, length, sym, reverse}
 use Rattle.hb_rules.proofs.Hands.{holder-past}
 use Rattle.hb_turns.proofs.game.Game.holder.Goals as goal
 

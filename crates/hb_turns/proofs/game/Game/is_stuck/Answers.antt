@@ -1,4 +1,4 @@
-use Rattle.std.proofs.Common.{arith, ◌≡◌, ◌≤◌, length, sym, ◌∙◌, reverse, ap}
+use Rattle.std.proofs.Common.{arith, ◌≤◌, reverse}
 use Rattle.hb_rules.specs.Result.{height}
 use Rattle.hb_rules.proofs.Heights.{height-le}
 use Rattle.hb_turns.proofs.Fair.{rank-le}

@@ -1,4 +1,4 @@
-use Rattle.std.proofs.Common.{arith, ◌≡◌, ◌<◌, length, reverse}
+use Rattle.std.proofs.Common.{arith, ◌<◌, length, reverse}
 use Rattle.hb_turns.proofs.Views.{held-low}
 use Rattle.hb_turns.proofs.game.Game.marks.Goals as goal
 

@@ -1,4 +1,4 @@
-use Rattle.std.proofs.Common.{arith, refl, ◌≡◌, ◌<◌, ◌∙◌, sym, length, reverse, true, false, take}
+use Rattle.std.proofs.Common.{arith, refl, ◌≡◌, ◌<◌, ◌∙◌, reverse}
 use Rattle.std.specs.Prelude.{slice_index}
 use Rattle.std.proofs.lemmas.List.{take_all}
 use Rattle.hb_rules.specs.Setup.{card}

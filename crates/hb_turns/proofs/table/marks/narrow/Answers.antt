@@ -1,4 +1,4 @@
-use Rattle.std.proofs.Common.{sym, ◌∙◌, arith, ◌≡◌, ◌<◌, length, true, false, None, slice_index}
+use Rattle.std.proofs.Common.{sym, ◌∙◌, arith, true, false, None}
 use Rattle.std.specs.Prelude.{slice_index_or}
 use Rattle.hb_turns.proofs.Narrow.{at-eq, narrowed_none, narrowed_kept, narrowed_more}
 use Rattle.hb_turns.proofs.table.marks.narrow.Goals as goal

@@ -1,4 +1,3 @@
-use Rattle.std.proofs.Common.{◌≡◌, ℕ}
 use Rattle.hb_turns.specs.Steps.{IsNarrowed}
 use Rattle.hb_turns.proofs.table.marks.narrow.Given as goal
 

@@ -1,8 +1,4 @@
-use Rattle.std.proofs.Common.{arith, ◌≡◌, refl}
-use Rattle.std.specs.Prelude.{◌&&◌}
-use Rattle.hb_rules.specs.Cards.{identity, has_number}
-use Rattle.hb_rules.specs.Touch.{touches}
-use Rattle.hb_rules.specs.Marks.{same}
+use Rattle.std.proofs.Common.{refl}
 use Rattle.hb_sets.specs.Sets.{bit}
 use Rattle.hb_sets.proofs.Bits.{bit-lt}
 use Rattle.hb_turns.proofs.Narrow.{meet-is}
