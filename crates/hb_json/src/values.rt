@@ -1,6 +1,7 @@
 //! The values.
 
-ghost use Rattle.std.specs.Prelude.{◌≡◌, IfOk, OnOk};
+ghost use Rattle.std.specs.Prelude.{◌≡◌, true, IfOk, OnErr, OnOk};
+ghost use Rattle.serde_json.specs.Data.{boolean};
 ghost use Rattle.serde_json.specs.View.{view, members_view};
 ghost use Rattle.hb_json.specs.Values.{options_data, put_if as put_if_of, texts_data, wholes_data};
 
@@ -32,7 +33,7 @@ pub fn texts_value(alloc: Global, texts: &[Text]) -> Result<Value, AllocError>
     Ok(Value::Array(items))
 }
 
-/// Puts a member into an object where it is to be written.
+/// Puts a member into an object where it is to be written. Without memory for it the object stays as it was.
 pub fn put_if(
     map: &mut Map<String, Value>,
     alloc: Global,
@@ -40,12 +41,25 @@ pub fn put_if(
     key: &str,
     value: Value,
 ) -> Result<(), AllocError>
-    ensures { OnOk result (members_view map.new.entries ≡ put_if_of on key.now (view value) (members_view map.old.entries)) }
+    ensures ok { OnOk result (members_view map.new.entries ≡ put_if_of on key.now (view value) (members_view map.old.entries)) }
+    ensures err { OnErr result (map.new.entries ≡ map.old.entries) }
 {
     if on {
         put(map, alloc, key, value)?;
     }
     Ok(())
+}
+
+/// Puts the member `true` into an object where a flag is set.
+fn put_flag(
+    map: &mut Map<String, Value>,
+    alloc: Global,
+    flag: bool,
+    key: &str,
+) -> Result<(), AllocError>
+    ensures { OnOk result (members_view map.new.entries ≡ put_if_of flag key.now (boolean true) (members_view map.old.entries)) }
+{
+    put_if(map, alloc, flag, key, Value::Bool(true))
 }
 
 /// The canonical options object: the variant's name always, and each other option only where it is not its default.
@@ -60,27 +74,9 @@ pub fn options_value(
     let mut map = Map::new(alloc);
     let name = String::from_str(alloc, variant_name)?;
     put(&mut map, alloc, "variant", Value::String(name))?;
-    put_if(
-        &mut map,
-        alloc,
-        options.empty_clues,
-        "emptyClues",
-        Value::Bool(true),
-    )?;
-    put_if(
-        &mut map,
-        alloc,
-        options.extra_card,
-        "oneExtraCard",
-        Value::Bool(true),
-    )?;
-    put_if(
-        &mut map,
-        alloc,
-        options.less_card,
-        "oneLessCard",
-        Value::Bool(true),
-    )?;
+    put_flag(&mut map, alloc, options.empty_clues, "emptyClues")?;
+    put_flag(&mut map, alloc, options.extra_card, "oneExtraCard")?;
+    put_flag(&mut map, alloc, options.less_card, "oneLessCard")?;
     put_if(
         &mut map,
         alloc,
@@ -88,7 +84,7 @@ pub fn options_value(
         "startingPlayer",
         Value::from(options.starting),
     )?;
-    put_if(&mut map, alloc, options.timed, "timed", Value::Bool(true))?;
+    put_flag(&mut map, alloc, options.timed, "timed")?;
     put_if(
         &mut map,
         alloc,
