@@ -12,6 +12,7 @@ use Rattle.hb_rules.specs.Setup.{Position}
 use Rattle.hb_rules.specs.Result.{ended, current}
 use Rattle.hb_rules.specs.Legality.{rule, Legal}
 use Rattle.hb_rules.proofs.Rules.{may_play, may_discard, may_clue, may_runs}
+use Rattle.hb_turns.proofs.Views.{position}
 use Rattle.hb_replay.specs.declared.written.WrittenAction.{WrittenAction}
 use Rattle.hb_replay.specs.declared.written.WrittenAction.TheVariants as written
 use Rattle.hb_replay.specs.declared.errors.ReplayError.{ReplayError}
@@ -71,9 +72,6 @@ written_action who (action.End how) = written.End who how
 
 abbrev pub written_act : Act → WrittenAction
 written_act act = written_action act.who act.action
-
-abbrev pub position : Setup → List Act → Position
-position g past = record { setup = g; past = past }
 
 none-ended : (how : EndHow) (o : Option EndHow) → is_some o ≡ false → is_end how o ≡ false
 none-ended how None h = refl

@@ -30,7 +30,8 @@ use Rattle.hb_replay.specs.Reading.{ReadsAs, Gives}
 use Rattle.hb_replay.specs.ReplayOf.{IsText, IsWhole, IsFlag, HasListOf, IsListOf, IsCard, IsAction, IsOr, IsNoteList, SaysOptions, AreOptions, Leads, ReplayOf}
 use Rattle.hb_replay.proofs.DeckTest.{deck-to, deck-from}
 use Rattle.hb_replay.proofs.Found.{never, same-ok, step, found_or-ok, Found, found, gives}
-use Rattle.hb_replay.proofs.Acts.{position, leads-played, played-leads}
+use Rattle.hb_turns.proofs.Views.{position}
+use Rattle.hb_replay.proofs.Acts.{leads-played, played-leads}
 use Rattle.hb_replay.proofs.Kept.{same-setup}
 use Rattle.hb_replay.proofs.Shapes.{nothing, object-is, object-there, list-to, list-from, player-to, player-from, card-to, card-from, action-to, action-from, or-to, or-from, text-to, text-from, whole-to, whole-from, flag-to, flag-from, notes-to, notes-from, others-to, others-from}
 

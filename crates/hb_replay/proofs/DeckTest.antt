@@ -7,20 +7,15 @@ use Rattle.std.proofs.lemmas.List.Folds.{list_all-append}
 use Rattle.hb_rules.specs.declared.suits.Identity.{Identity}
 use Rattle.hb_rules.specs.declared.variants.Variant.{Variant}
 use Rattle.hb_rules.specs.Cards.{IsDeck, count_of, copies, same_identity, cards}
+use Rattle.hb_rules.proofs.Identities.{same_identity-true}
 use Rattle.hb_replay.specs.Refusals.{is_deck}
-
-same-parts : (s r t q : ℕ) → s ≡ t → r ≡ q → (let a : Identity = record { suit = s; rank = r } in let b : Identity = record { suit = t; rank = q } in a ≡ b)
-same-parts s r t q e f = rw (e, f) refl
-
-same-is : (a b : Identity) → same_identity a b ≡ true → a ≡ b
-same-is a b h = same-parts a.suit a.rank b.suit b.rank (grind arith) (grind arith)
 
 differ : (p : Identity → Bool) (a b : Identity) → p b ≡ true → p a ≡ false → same_identity a b ≡ false
 differ p a b good bad = pick (same_identity a b) refl
   where
     pick : (t : Bool) → same_identity a b ≡ t → t ≡ false
     pick false e = refl
-    pick true e = let at : p a ≡ true = rw (same-is a b e) good in absurd (grind arith)
+    pick true e = let at : p a ≡ true = rw (same_identity-true a b e) good in absurd (grind arith)
 
 sum-none : (t : Bool) (n : ℕ) → t ≡ false → n ≡ 0 → cond t 1 0 + n ≡ 0
 sum-none true n e z = grind arith

@@ -5,6 +5,7 @@ use Rattle.std.specs.declared.option.Option.{Option}
 use Rattle.std.specs.declared.option.Option.TheVariants.{None, Some}
 use Rattle.std.specs.Option.{option_eq}
 use Rattle.std.proofs.Math.Bool.{Bool-set}
+use Rattle.std.proofs.lemmas.Bool.{and_from, and_parts}
 use Rattle.std.specs.Cmp.Lexicographic.{pointwise, pointwise_decides}
 use denote.Enum.Bare.{sameb, same_true, true_same}
 use Rattle.hb_rules.specs.declared.suits.Suit.{Suit}
@@ -28,13 +29,6 @@ tells-option E h None (Some y) = (λ e. absurd (grind arith), λ e. absurd (grin
 tells-option E h (Some x) None = (λ e. absurd (grind arith), λ e. absurd (grind arith))
 tells-option E h (Some x) (Some y) = (λ e. ap Some ((h x y).0 e), λ e. (h x y).1 (same-some x y e))
 
-both : (a b : Bool) → (a && b) ≡ true → (a ≡ true) × (b ≡ true)
-both true b h = (refl, h)
-both false b h = absurd (grind arith)
-
-joined : (a b : Bool) → a ≡ true → b ≡ true → (a && b) ≡ true
-joined a b h k = rw (h, k) refl
-
 -- as the derived comparisons have it
 abbrev same_suit : Suit → Suit → Bool
 same_suit x y = sameb suit_type.the_type x y
@@ -56,9 +50,9 @@ own-number n = grind arith
 
 tells-special : Tells same_special
 tells-special x y = (
-  λ e. let parts = both (x.rank == y.rank) (sameb kind_type.the_type x.kind y.kind) e in
+  λ e. let parts = and_parts (x.rank == y.rank) (sameb kind_type.the_type x.kind y.kind) e in
       special-parts x.rank y.rank x.kind y.kind (same-number x.rank y.rank parts.0) (same_true kind_type.the_type tt x.kind y.kind parts.1),
-  λ e. subst (λ (z : Special). same_special x z ≡ true) e (joined (x.rank == x.rank) (sameb kind_type.the_type x.kind x.kind) (own-number x.rank) (true_same kind_type.the_type x.kind x.kind refl)),
+  λ e. subst (λ (z : Special). same_special x z ≡ true) e (and_from (x.rank == x.rank) (sameb kind_type.the_type x.kind x.kind) (own-number x.rank) (true_same kind_type.the_type x.kind x.kind refl)),
 )
 
 abbrev made : (suits : List (Option Suit)) (special : Option Special) → IsVariant suits special → Variant
@@ -76,9 +70,9 @@ same_parts v w = pointwise (option_eq same_suit) v.suits w.suits && option_eq sa
 
 pub same-variant : (v w : Variant) → (same_parts v w ≡ true) ↔ (v ≡ w)
 same-variant v w = (
-  λ e. let parts = both (pointwise (option_eq same_suit) v.suits w.suits) (option_eq same_special v.special w.special) e in
+  λ e. let parts = and_parts (pointwise (option_eq same_suit) v.suits w.suits) (option_eq same_special v.special w.special) e in
       variant-parts v.suits w.suits v.special w.special v.valid w.valid ((pointwise_decides (tells-option same_suit tells-suit) v.suits w.suits).0 parts.0) ((tells-option same_special tells-special v.special w.special).0 parts.1),
-  λ e. subst (λ (u : Variant). same_parts v u ≡ true) e (joined (pointwise (option_eq same_suit) v.suits v.suits) (option_eq same_special v.special v.special)
+  λ e. subst (λ (u : Variant). same_parts v u ≡ true) e (and_from (pointwise (option_eq same_suit) v.suits v.suits) (option_eq same_special v.special v.special)
       ((pointwise_decides (tells-option same_suit tells-suit) v.suits v.suits).1 refl) ((tells-option same_special tells-special v.special v.special).1 refl)),
 )
 
