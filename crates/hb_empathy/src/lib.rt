@@ -17,8 +17,8 @@
 //! For one card alone, marks and copies would leave too much: of two cards that can only be c5 or d5, each of which has
 //! one copy left, every other card learns that it is neither.
 //!
-//! `proofs/` also has what callers need of these sets: `Listed` gives the possible identities as a list, in ascending
-//! order, and shows that there is one such list and one such set. No call takes memory, and a hand takes one matching.
+//! `specs/Listed.antt` says when a list is that of the possible identities, ascending, for lines that print them;
+//! `proofs/Listed.antt` shows that there is one such list. No call takes memory, and a hand takes one matching.
 #![tactic(auto)]
 
 mod hidden;

@@ -1,4 +1,5 @@
-// Bytes that own their memory.
+//! Bytes that own their memory.
+
 ghost use Rattle.std.specs.Prelude.{◌≡◌, ◌↔◌, [], ◌++◌, length, IsTrue, OnOk, OnErr};
 
 use std::alloc::{AllocError, Global};

@@ -1,4 +1,5 @@
-// The calls of a stream in memory: how many there were, and which of them fail.
+//! The calls of a stream in memory: how many there were, and which of them fail.
+
 ghost use Rattle.std.specs.Prelude.{◌≡◌, ◌↔◌, IsErr, OnOk, OnErr, Contains};
 ghost use Rattle.hb_io.specs.Causes.{next_count};
 

@@ -1,4 +1,5 @@
-// The answer of a call that met a fault.
+//! The answer of a call that met a fault.
+
 ghost use Rattle.std.specs.Prelude.{Some, codes};
 
 use std::error::Error;

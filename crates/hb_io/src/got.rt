@@ -1,4 +1,4 @@
-// What a link gave.
+//! What a link gave.
 
 use crate::Text;
 

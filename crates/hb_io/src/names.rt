@@ -1,4 +1,5 @@
-// Names, which need no memory.
+//! Names, which need no memory.
+
 ghost use Rattle.std.specs.Prelude.{◌≡◌};
 ghost use Rattle.hb_io.specs.Names.{IsName};
 

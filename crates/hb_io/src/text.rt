@@ -1,4 +1,5 @@
-// Texts that own their memory, and lists of them.
+//! Texts that own their memory, and lists of them.
+
 ghost use Rattle.std.specs.Prelude.{◌≡◌, ◌↔◌, [], ◌∷◌, ◌++◌, length, IsTrue, IfOk, OnOk, OnErr, string_bytes};
 
 use std::alloc::{AllocError, Global};

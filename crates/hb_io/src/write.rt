@@ -1,4 +1,5 @@
-// Writing all of it.
+//! Writing all of it.
+
 ghost use Rattle.std.specs.Prelude.{◌≡◌, ◌<◌, ◌≤◌, length, take, IfErr, OnOk, OnErr};
 ghost use Rattle.std.specs.Io.KnownBytes.{Appends};
 ghost use Rattle.hb_io.specs.Causes.{HasCause};

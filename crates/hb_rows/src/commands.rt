@@ -1,4 +1,4 @@
-// Whole commands over sources and sinks in memory.
+//! Whole commands over sources and sinks in memory.
 
 use hb_cli::{Status, run};
 use hb_io::{SinkMemory, SourceMemory};

@@ -1,4 +1,4 @@
-// The identities that hidden cards can have, in games whose sets were found by hand.
+//! The identities that hidden cards can have, in games whose sets were found by hand.
 
 use hb_empathy::{hand_sets, identities};
 use hb_rules::{Action, Clue, Identity, Options, Variant};

@@ -1,4 +1,4 @@
-// Bytes in and out, texts and names.
+//! Bytes in and out, texts and names.
 
 use hb_io::{
     Bytes, Failed, Got, Name, ReadAll, Sink, SinkMemory, Source, SourceMemory, StdSink, StdSource,

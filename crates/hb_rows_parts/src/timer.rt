@@ -1,3 +1,5 @@
+//! Banks, pauses and deadlines, with moments and banks added up by hand.
+
 use hb_timer::{BANK_LIMIT, MOMENT_LIMIT, Timer, TimerState};
 
 #[test]

@@ -1,4 +1,5 @@
-// Which texts are names.
+//! Which texts are names.
+
 ghost use Rattle.std.specs.Prelude.{◌≡◌, ◌↔◌, IsTrue, IsSome, IfSome};
 ghost use Rattle.hb_io.specs.Names.{IsName, IsNameByte};
 
