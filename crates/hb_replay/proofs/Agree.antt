@@ -10,7 +10,7 @@ use Rattle.hb_rules.specs.declared.variants.Variant.{Variant}
 use Rattle.hb_rules.specs.declared.acts.Options.{Options}
 use Rattle.hb_rules.specs.declared.setups.Setup.{Setup}
 use Rattle.hb_rules.specs.Setup.{Position, with_deck}
-use Rattle.hb_rules.specs.Start.{are_players, are_options, started}
+use Rattle.hb_rules.specs.Start.{are_options, started}
 use Rattle.hb_replay.specs.declared.place.Place.{Place}
 use Rattle.hb_replay.specs.declared.place.Part.TheVariants as part
 use Rattle.hb_replay.specs.declared.place.PlaceField.TheVariants as field
@@ -23,13 +23,13 @@ use Rattle.hb_replay.specs.declared.errors.ReplayError.{ReplayError}
 use Rattle.hb_replay.specs.declared.errors.ReplayError.TheVariants as fault
 use Rattle.hb_replay.specs.Contents.{Contents}
 use Rattle.hb_replay.specs.Places.{part_place, option_place}
-use Rattle.hb_replay.specs.Results.{◌>>=◌, found_or, absent_or}
+use Rattle.hb_replay.specs.Results.{◌>>=◌, found_or}
 use Rattle.hb_replay.specs.Shape.{present, whole_of, first_other, option_at, options_in, default_options, options_of, list_at, players_of, cards_of, actions_of, player_at, card_at, action_at, notes_of, shape_of}
-use Rattle.hb_replay.specs.Refusals.{option_fault, game_options, played, game_in, contents_of, shaped, replay_in, replay_of}
+use Rattle.hb_replay.specs.Refusals.{option_fault, game_options, played, game_in, contents_of, shaped, replay_of}
 use Rattle.hb_replay.specs.Reading.{ReadsAs, Gives}
 use Rattle.hb_replay.specs.ReplayOf.{IsText, IsWhole, IsFlag, HasListOf, IsListOf, IsCard, IsAction, IsOr, IsNoteList, SaysOptions, AreOptions, Leads, ReplayOf}
 use Rattle.hb_replay.proofs.DeckTest.{deck-to, deck-from}
-use Rattle.hb_replay.proofs.Found.{never, same-ok, step, found_or-ok, Found, found, gives}
+use Rattle.hb_replay.proofs.Found.{never, same-ok, step, Found, found, gives}
 use Rattle.hb_turns.proofs.Views.{position}
 use Rattle.hb_replay.proofs.Acts.{leads-played, played-leads}
 use Rattle.hb_replay.proofs.Kept.{same-setup}

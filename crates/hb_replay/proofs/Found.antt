@@ -1,5 +1,5 @@
 -- What the steps of a reading found, where all of them found something.
-use Rattle.std.proofs.Common.{◌≡◌, ℕ, List, Bool, true, false, Result, Ok, Err, Option, None, Some, refl, sym, ◌∙◌}
+use Rattle.std.proofs.Common.{◌≡◌, ℕ, List, Bool, true, false, Result, Ok, Err, Option, None, Some, refl, sym}
 use Rattle.std.specs.Prelude.{length}
 use Rattle.hb_rules.specs.declared.suits.Identity.{Identity}
 use Rattle.hb_rules.specs.declared.variants.Variant.{Variant}
@@ -9,7 +9,6 @@ use Rattle.hb_rules.specs.Start.{are_players, started}
 use Rattle.hb_suits.specs.Names.{variant_of}
 use Rattle.hb_replay.specs.declared.written.WrittenReplay.{WrittenReplay}
 use Rattle.hb_replay.specs.declared.errors.OptName.{OptName}
-use Rattle.hb_replay.specs.declared.errors.ReplayError.{ReplayError}
 use Rattle.hb_replay.specs.declared.errors.ReplayError.TheVariants as fault
 use Rattle.hb_replay.specs.Contents.{notes_fit}
 use Rattle.hb_replay.specs.Refusals.{option_fault, game_options, is_deck, unless_refused, options_for, opening, played, game_in}

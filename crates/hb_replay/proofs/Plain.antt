@@ -1,8 +1,8 @@
 -- A replay's value holds no float and nests little: its text is exact, and reads back.
-use Rattle.std.proofs.Common.{◌≡◌, ℕ, ◌≤◌, List, Ok, Some, Bool, true, false, refl, arith, sym, ap, subst, ◌∙◌}
+use Rattle.std.proofs.Common.{◌≡◌, ℕ, ◌≤◌, List, Ok, Some, false, refl, arith, sym, ap, subst, ◌∙◌}
 use Rattle.std.specs.Prelude.{codes, not, ◌==◌, length, reverse, IsUtf8}
 use Rattle.serde_json.specs.Read.{read}
-use Rattle.serde_json.specs.Data.{Data, string, no_members, depth}
+use Rattle.serde_json.specs.Data.{Data, no_members, depth}
 use Rattle.serde_json.specs.Written.{has_float, compact_text}
 use Rattle.hb_json.specs.Values.{texts_data, options_data}
 use Rattle.hb_json.proofs.Plain.{IsPlain, plain-put, plain-put_if, none, plain-list, plain-object, lift, plain-texts, plain-options}

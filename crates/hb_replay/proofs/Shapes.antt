@@ -1,9 +1,9 @@
 -- The steps of `Shape` find what `ReplayOf` says, and nothing else.
-use Rattle.std.proofs.Common.{◌≡◌, ℕ, zero, suc, ◌+◌, ◌<◌, List, [], ◌∷◌, Result, Ok, Err, Bool, true, false, refl, arith, sym, ◌∙◌}
-use Rattle.std.specs.Prelude.{nat_lt, ◌&&◌, ◌==◌, not, option_and_then, codes}
+use Rattle.std.proofs.Common.{◌≡◌, ℕ, zero, suc, ◌+◌, ◌<◌, List, [], ◌∷◌, Result, Ok, Bool, true, false, refl, arith, sym}
+use Rattle.std.specs.Prelude.{nat_lt, ◌&&◌, ◌==◌, not, codes}
 use Rattle.std.specs.declared.option.Option.{Option}
 use Rattle.std.specs.declared.option.Option.TheVariants.{None, Some}
-use Rattle.serde_json.specs.Data.{Data, Num, unsigned, negative, float, null, boolean, number, string, array, object, Items, no_items, item, Members, no_members, member}
+use Rattle.serde_json.specs.Data.{Data, unsigned, negative, float, null, boolean, number, string, array, object, Items, no_items, item, Members, no_members, member}
 use Rattle.serde_json.specs.Find.{get, as_str, as_bool, as_array, as_object}
 use Rattle.hb_json.specs.Values.{whole}
 use Rattle.hb_rules.specs.declared.suits.Identity.{Identity}
@@ -18,7 +18,7 @@ use Rattle.hb_replay.specs.declared.written.WrittenAction.TheVariants as written
 use Rattle.hb_rules.specs.Numbers.{end_number}
 use Rattle.hb_replay.specs.Places.{member_place, field_place, part_place, note_place}
 use Rattle.hb_replay.specs.Results.{◌>>=◌, found_or, absent_or}
-use Rattle.hb_replay.specs.Shape.{each_at, list_at, present, whole_of, below_of, number_at, player_at, card_at, end_of, valued_action, action_of_kind, action_at, is_understood, is_true, first_other, note_at, note_list_at, note_lists_of, notes_of}
+use Rattle.hb_replay.specs.Shape.{each_at, list_at, present, whole_of, below_of, number_at, player_at, card_at, end_of, action_of_kind, action_at, is_understood, is_true, first_other, note_at, note_list_at, note_lists_of, notes_of}
 use Rattle.hb_replay.specs.ReplayOf.{IsText, IsWhole, IsFlag, Each, IsListOf, HasListOf, HasByte, IsCard, IsAction, IsOr, IsNote, IsNoteList, AreUnderstood}
 use Rattle.hb_replay.proofs.Found.{never, same-ok, step, found_or-ok}
 

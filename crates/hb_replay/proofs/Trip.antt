@@ -1,7 +1,6 @@
 -- What is written reads back.
-use Rattle.std.proofs.Common.{◌≡◌, ℕ, ◌+◌, ◌<◌, List, [], ◌∷◌, length, map, reverse, Result, Ok, Bool, true, false, refl, arith, ap, sym}
-use Rattle.std.specs.Prelude.{nat_lt, nat_le, option_and_then, codes, not, ◌==◌, ◌&&◌, if◌then◌else◌}
-use Rattle.std.specs.declared.option.Option.{Option}
+use Rattle.std.proofs.Common.{◌≡◌, ℕ, ◌+◌, ◌<◌, List, [], ◌∷◌, length, map, reverse, Result, Ok, Bool, true, false, refl, arith, sym}
+use Rattle.std.specs.Prelude.{nat_lt, not, ◌==◌, if◌then◌else◌}
 use Rattle.std.specs.declared.option.Option.TheVariants.{None, Some}
 use Rattle.serde_json.specs.Data.{Data, string}
 use Rattle.serde_json.specs.View.{items_of}
@@ -14,16 +13,11 @@ use Rattle.hb_rules.specs.declared.acts.Clue.TheVariants as clue
 use Rattle.hb_rules.specs.declared.acts.EndHow.TheVariants.{Normal, Strikeout, Timeout, Terminated}
 use Rattle.hb_rules.specs.declared.acts.Options.{Options}
 use Rattle.hb_rules.specs.Start.{are_options}
-use Rattle.hb_rules.specs.Setup.{Position}
-use Rattle.hb_replay.specs.declared.place.Place.{Place}
-use Rattle.hb_replay.specs.declared.written.WrittenAction.{WrittenAction}
 use Rattle.hb_replay.specs.declared.written.WrittenOptions.{WrittenOptions}
 use Rattle.hb_replay.specs.declared.written.WrittenReplay.{WrittenReplay}
-use Rattle.hb_replay.specs.declared.errors.OptName.{OptName}
 use Rattle.hb_replay.specs.Contents.{Contents, IsReplay, HasTimes}
-use Rattle.hb_replay.specs.Results.{◌>>=◌}
 use Rattle.hb_replay.specs.Shape.{each_at, player_at, players_of, card_at, cards_of, action_at, actions_of, note_at, note_list_at, notes_of, shape_of}
-use Rattle.hb_replay.specs.Refusals.{option_fault, game_options, game_in, replay_of}
+use Rattle.hb_replay.specs.Refusals.{option_fault, game_options, replay_of}
 use Rattle.hb_replay.specs.Canonical.{card_data, action_data, act_data, notes_data, replay_data}
 use Rattle.hb_replay.proofs.DeckTest.{deck-to}
 use Rattle.hb_replay.proofs.Found.{Found, gives}

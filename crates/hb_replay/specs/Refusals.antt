@@ -1,5 +1,5 @@
 -- The refusals of what has the shape of a replay, in their order, and the game that is played.
-use Rattle.std.specs.Prelude.{ℕ, ◌+◌, List, [], ◌∷◌, ◌++◌, Result, nat_lt, nat_le, if◌then◌else◌, Bool, true, false, ◌&&◌, ◌==◌, is_some, length, option_map}
+use Rattle.std.specs.Prelude.{ℕ, ◌+◌, List, [], ◌∷◌, ◌++◌, Result, nat_lt, nat_le, if◌then◌else◌, Bool, false, ◌&&◌, ◌==◌, is_some, length, option_map}
 use Rattle.std.specs.List.{list_all}
 use Rattle.std.specs.declared.option.Option.{Option}
 use Rattle.std.specs.declared.option.Option.TheVariants.{None, Some}

@@ -1,6 +1,6 @@
 -- Which replay a JSON value is, by the cases of the value. No order of checks matters here, and no fault is named.
 use Rattle.std.specs.Prelude.{◌≡◌, ℕ, ◌<◌, List, [], ◌∷◌, length, codes, Option, None, Some, Bool, true, false, ◌&&◌, ◌==◌, ◌⊎◌, ⊤, if◌then◌else◌}
-use Rattle.serde_json.specs.Data.{Data, null, boolean, number, string, array, object, Items, no_items, item, Members, no_members, member}
+use Rattle.serde_json.specs.Data.{Data, boolean, string, array, object, Items, no_items, item, Members, no_members, member}
 use Rattle.serde_json.specs.Find.{get, get_member}
 use Rattle.hb_json.specs.Values.{whole}
 use Rattle.hb_rules.specs.declared.suits.Identity.{Identity}

@@ -1,9 +1,9 @@
 -- The shape of a replay: what a JSON value says, or the first place that has not the right shape.
 -- Members of a list are looked at in their order, and the fields of an object in the order of these definitions.
-use Rattle.std.specs.Prelude.{ℕ, ◌+◌, List, [], ◌∷◌, codes, Result, nat_lt, if◌then◌else◌, Bool, true, false, not, ◌&&◌, ◌||◌, option_and_then, ◌==◌, bytes_eq}
+use Rattle.std.specs.Prelude.{ℕ, ◌+◌, List, [], ◌∷◌, codes, Result, nat_lt, if◌then◌else◌, Bool, false, not, ◌&&◌, ◌||◌, option_and_then, ◌==◌, bytes_eq}
 use Rattle.std.specs.declared.option.Option.{Option}
 use Rattle.std.specs.declared.option.Option.TheVariants.{None, Some}
-use Rattle.std.specs.declared.result.Result.TheVariants.{Ok, Err}
+use Rattle.std.specs.declared.result.Result.TheVariants.{Ok}
 use Rattle.serde_json.specs.Data.{Data, null, boolean, number, string, array, object, Items, no_items, item, Members, no_members, member}
 use Rattle.serde_json.specs.Find.{get, as_number, as_u64, as_str, as_bool, as_array, as_object}
 use Rattle.hb_rules.specs.declared.suits.Identity.{Identity}
