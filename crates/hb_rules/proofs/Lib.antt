@@ -1,8 +1,8 @@
-mod Worked
 pub mod Ranges
 pub mod Copies
 pub mod Hands
 pub mod Rules
+mod FittingPlays
 pub mod HandSize
 pub mod Undrawn
 pub mod Touched
@@ -11,3 +11,5 @@ pub mod Identities
 pub mod Decks
 pub mod DeckSize
 pub mod Numbers
+pub mod Same
+pub mod Possible

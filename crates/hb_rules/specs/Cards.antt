@@ -1,7 +1,8 @@
 -- The cards of a variant, how many copies there are of each identity, and what a deck is.
 -- The copies are the rulebook's; Black has one card of each rank, after Hanabi Live.
-use Rattle.std.specs.Prelude.{◌≡◌, ℕ, ◌+◌, ◌-◌, ◌*◌, ◌/◌, ◌%◌, nat_lt, nat_le, Bool, true, false, ◌&&◌, ◌||◌, ◌==◌, List, Option, Some, None, is_some, count_by, flat_map, replicate, if◌then◌else◌, slice_index_or}
-use Rattle.std.specs.List.{range_with_len}
+use Rattle.std.specs.Prelude.{◌≡◌, ℕ, ◌+◌, ◌-◌, ◌*◌, ◌/◌, ◌%◌, nat_lt, nat_le, Bool, true, false, ◌&&◌, ◌||◌, ◌==◌, List, ◌++◌, Option, Some, None, is_some, count_by, flat_map, replicate, if◌then◌else◌, slice_index_or}
+use Rattle.std.specs.List.{list_all, range_with_len}
+use Rattle.hb_rules.specs.declared.limits.TheConstants.{HIGHEST_RANK, MOST_SUITS}
 use Rattle.hb_rules.specs.declared.suits.Identity.{Identity}
 use Rattle.hb_rules.specs.declared.suits.Suit.{Suit}
 use Rattle.hb_rules.specs.declared.suits.Suit.TheVariants as suit
@@ -24,18 +25,22 @@ abbrev pub is_black : Option Suit → Bool
 is_black (Some suit.Black) = true
 is_black _ = false
 
--- how many cards of a rank are in a suit: three 1s, two each of 2, 3 and 4 and one 5, or one of each rank for Black
+-- how many cards of a rank are in a suit: three 1s, two each of 2, 3 and 4 and one 5, or one of
+-- each rank for Black
 abbrev pub rank_copies : Option Suit → ℕ → ℕ
 rank_copies None rank = 0
-rank_copies (Some s) rank = if is_black (Some s) || rank == 5 then 1 else (if rank == 1 then 3 else 2)
+rank_copies (Some s) rank =
+    if is_black (Some s) || rank == HIGHEST_RANK then 1 else (if rank == 1 then 3 else 2)
 
 -- the cards of the suit at an index, by rank
 abbrev pub suit_cards : Variant → ℕ → List Identity
-suit_cards v i = flat_map (λ rank. replicate (rank_copies (suit_at v i) rank) (record { suit = i; rank = rank })) (range_with_len 1 5)
+suit_cards v i =
+    flat_map (λ rank. replicate (rank_copies (suit_at v i) rank) (record { suit = i; rank = rank }))
+    (range_with_len 1 HIGHEST_RANK)
 
 -- all cards of the variant, in order of identity numbers
 unfoldable pub cards : Variant → List Identity
-cards v = flat_map (suit_cards v) (range_with_len 0 6)
+cards v = flat_map (suit_cards v) (range_with_len 0 MOST_SUITS)
 
 -- how often an identity stands in a list of cards
 abbrev pub count_of : Identity → List Identity → ℕ
@@ -48,6 +53,11 @@ copies v id = count_of id (cards v)
 -- each identity stands in the deck as often as there are copies of it, and so nothing else does
 abbrev pub IsDeck : Variant → List Identity → Type 0
 IsDeck v deck = (id : Identity) → count_of id deck ≡ copies v id
+
+-- the same as a test: an identity that stands neither in the variant's cards nor in the list has no
+-- copies and none in the list
+abbrev pub is_deck : Variant → List Identity → Bool
+is_deck v deck = list_all (λ id. count_of id deck == copies v id) (cards v ++ deck)
 
 -- the number of an identity
 abbrev pub number : Identity → ℕ

@@ -7,6 +7,11 @@ pub mod Hands
 pub mod Result
 pub mod Legality
 pub mod Events
-pub mod Deals
-pub mod Marks
+pub mod Observed
 pub mod Numbers
+pub mod Same
+pub mod Deals
+pub mod Laws
+pub mod Marks
+pub mod Positions
+mod WorkedGames

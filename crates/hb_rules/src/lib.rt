@@ -1,15 +1,20 @@
-//! The rules of Hanabi: the plain types that they speak of, and the definitions that every contract above cites.
+//! The rules of Hanabi: the plain types that they speak of, and the definitions that every contract
+//! above cites.
 //!
-//! There is little code here: the limits, the default options, and the numbers by which ends and rules are written.
-//! `specs/` holds the definitions, in the order in which a reader needs them: `Suits` (what a variant is), `Cards` (copies
-//! and decks), `Touch` (clues), `Setup`, `Start`, `Hands`, `Result` (stacks, tokens, strikes, the end), `Legality` (which
-//! rule an act breaks), `Events` (what is told, and what a blind set sees of it), `Deals` (which identities an observation
-//! leaves possible), `Marks` (which identities the clues allow) and `Numbers` (how ends and rules are written). `proofs/`
-//! holds the laws of these definitions that several crates use, and worked games computed on them.
+//! There is little code here: the limits, the default options, and the numbers by which ends and
+//! rules are written. `specs/` holds the definitions, in the order in which a reader needs them:
+//! `Suits` (what a variant is), `Cards` (copies and decks), `Touch` (clues), `Setup`, `Start`,
+//! `Hands`, `Result` (stacks, tokens, strikes, the end), `Legality` (which rule an act breaks),
+//! `Events` (what is told, and what a blind set sees of it), `Deals` (which identities an
+//! observation leaves possible, as a relation and as a list), `Marks` (which identities the clues
+//! allow) and `Numbers` (how ends and rules are written). [`possible_are_listed`] is the law that
+//! the list is that of the relation. `proofs/` holds the laws of these definitions that several
+//! crates use, and worked games computed on them.
 #![tactic(auto)]
 
 pub mod acts;
 pub mod events;
+mod laws;
 pub mod limits;
 pub mod setups;
 pub mod suits;
@@ -17,6 +22,7 @@ pub mod variants;
 
 pub use acts::{Act, Action, Clue, EndHow, Options, Rule, StartError};
 pub use events::Event;
+pub use laws::{heights_count_plays, possible_are_listed};
 pub use limits::{
     DEFAULT_BASE_SECONDS, DEFAULT_TURN_SECONDS, FEWEST_PLAYERS, FULL_TOKENS, HIGHEST_RANK,
     IDENTITIES, MOST_ACTS, MOST_CARDS, MOST_HAND, MOST_PLAYERS, MOST_SECONDS, MOST_SUITS,
