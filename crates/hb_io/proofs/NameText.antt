@@ -7,7 +7,7 @@ use Rattle.std.proofs.lemmas.List.Elements.{All-nil, All-cons, All-contains, All
 use Rattle.std.proofs.lemmas.Str.{IsUtf8-from_ascii}
 use Rattle.std.proofs.lemmas.Str.Ascii.{IsAscii-from_all}
 use Rattle.hb_io.specs.declared.names.TheConstants.{NAME_LIMIT}
-use Rattle.hb_io.specs.Names.{IsNameByte, IsName, HoldsName}
+use Rattle.hb_io.specs.NameSpelling.{IsNameByte, IsName, HoldsName}
 
 -- a byte of a name is below 128
 IsNameByte-ascii : (b : ℕ) → IsNameByte b → b < 128

@@ -1,4 +1,4 @@
 pub mod Adapters
 pub mod Causes
 pub mod Memory
-pub mod Names
+pub mod NameSpelling

@@ -1,4 +1,4 @@
-//! std's readers and writers as sources and sinks.
+//! How do std's readers and writers serve as sources and sinks that count their faults?
 
 ghost use Rattle.std.specs.Prelude.{◌≡◌, ◌<◌, length, IfOk, OnErr};
 ghost use Rattle.std.specs.Io.{ReadsAtMost, WritesAtMost};

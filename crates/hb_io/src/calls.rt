@@ -1,4 +1,4 @@
-//! The calls of a stream in memory: how many there were, and which of them fail.
+//! Which call of a stream in memory is the next one, and does it fail?
 
 ghost use Rattle.std.specs.Prelude.{◌≡◌, ◌↔◌, IsErr, OnOk, OnErr, Contains};
 ghost use Rattle.hb_io.specs.Causes.{next_count};
@@ -26,7 +26,7 @@ impl Calls {
         }
     }
 
-    /// Counts one more call, which fails where its number is listed.
+    /// Counts one more call, which fails if its number is listed.
     pub(crate) fn begin(&mut self) -> Result<(), Failed>
         ensures listed { IsErr result ↔ Contains self.old.fails.items (next_count self.old.count) }
         ensures fails { self.new.fails.items ≡ self.old.fails.items }

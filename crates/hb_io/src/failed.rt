@@ -1,4 +1,4 @@
-//! The answer of a call that met a fault.
+//! What does a call answer that met a fault?
 
 ghost use Rattle.std.specs.Prelude.{Some, codes};
 

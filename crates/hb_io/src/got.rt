@@ -1,14 +1,14 @@
-//! What a link gave.
+//! What does a receive on a link answer?
 
 use crate::Text;
 
-/// What a link gave.
+/// What was received on a link.
 #[derive(Clone, Debug, PartialEq, Eq, Drop)]
 pub enum Got {
     /// A text.
     Text(Text),
     /// Nothing for now.
     Idle,
-    /// It is closed, and gives nothing more.
+    /// The link is closed, and gives nothing more.
     Closed,
 }

@@ -1,7 +1,7 @@
-//! Names, which need no memory.
+//! What is the name of a member, and how is it held without memory?
 
 ghost use Rattle.std.specs.Prelude.{◌≡◌};
-ghost use Rattle.hb_io.specs.Names.{IsName};
+ghost use Rattle.hb_io.specs.NameSpelling.{IsName};
 
 // `name` stands apart, since one module may not have both `name` and `Name`.
 pub(crate) mod spelling;
@@ -25,7 +25,7 @@ pub struct Name {
 
 impl Model for Name {
     ghost use Rattle.std.specs.Prelude.{List, ℕ, length, take};
-    ghost use Rattle.hb_io.specs.Names.{HoldsName, padded};
+    ghost use Rattle.hb_io.specs.NameSpelling.{HoldsName, padded};
 
     ghost Value = { List ℕ };
 

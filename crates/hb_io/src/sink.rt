@@ -1,4 +1,4 @@
-//! What bytes go to.
+//! What takes bytes, and what is known of the bytes that it holds?
 
 ghost use Rattle.std.specs.Prelude.{◌≡◌, ◌<◌, ◌++◌, ℕ, List, [], length, min, take, Some, IsErr, IfOk, OnErr};
 ghost use Rattle.std.specs.declared.option.Option.{Option};
@@ -14,7 +14,7 @@ use std::marker::Model;
 
 /// Takes bytes, piece by piece.
 pub trait Sink {
-    /// The bytes that it holds, where the sink tells them.
+    /// The bytes that it holds, if the sink tells them.
     ghost held: { Self → Option (List ℕ) };
 
     /// How many faults it has met.
@@ -29,7 +29,8 @@ pub trait Sink {
         ensures cause { HasCause (faults self.old) (faults self.new) result };
 }
 
-/// A sink that keeps its bytes in memory, takes them in pieces, and fails where its maker says.
+/// A sink that keeps its bytes in memory, takes them in pieces, and fails at the calls that its
+/// maker lists.
 #[derive(Debug, Drop)]
 pub struct SinkMemory {
     bytes: Vec<u8>,
@@ -101,14 +102,14 @@ impl Sink for SinkMemory {
 
     ghost faults = { λ s. s.faults };
 
-    /// A call fails too where there is no memory for the bytes that it would take.
+    /// A call fails too if there is no memory for the bytes that it would take.
     fn write(&mut self, piece: &[u8]) -> Result<usize, Failed>
         ensures bound { WritesAtMost result piece.now }
         ensures progress { 0 < length piece.now → IfOk result (λ count. 0 < count) }
         ensures bytes { WriteAppends (Some self.old.bytes) (Some self.new.bytes) result piece.now }
         ensures cause { HasCause self.old.faults self.new.faults result }
 
-        // It fails at the listed calls, and else only for want of memory.
+        // It fails at the listed calls, and at others only if it is out of memory.
         ensures listed { IsListed self.old → IsErr result }
         ensures count { IfOk result (λ n. n ≡ min (length piece.now) self.old.piece_len) }
         ensures taken { IfOk result (λ n.

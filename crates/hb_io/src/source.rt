@@ -1,4 +1,4 @@
-//! What bytes come from.
+//! What gives bytes, and what is known of the bytes that it has left?
 
 ghost use Rattle.std.specs.Prelude.{◌≡◌, ◌<◌, ◌↔◌, ◌++◌, ℕ, List, length, min, take, drop, Some, IsErr, IfOk, OnErr};
 ghost use Rattle.std.specs.declared.option.Option.{Option};
@@ -13,7 +13,7 @@ use std::marker::Model;
 
 /// Gives bytes, piece by piece.
 pub trait Source {
-    /// The bytes that are left, where the source tells them.
+    /// The bytes that are left, if the source tells them.
     ghost left: { Self → Option (List ℕ) };
 
     /// How many faults it has met.
@@ -27,7 +27,8 @@ pub trait Source {
         ensures cause { HasCause (faults self.old) (faults self.new) result };
 }
 
-/// A source over bytes in memory, which gives them in pieces, and fails where its maker says.
+/// A source over bytes in memory, which gives them in pieces, and fails at the calls
+/// that its maker lists.
 #[derive(Debug, Drop)]
 pub struct SourceMemory {
     bytes: Vec<u8>,

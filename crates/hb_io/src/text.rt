@@ -1,4 +1,4 @@
-//! Texts that own their memory, and lists of them.
+//! How is a text handed between crates, so that contracts see its bytes?
 
 ghost use Rattle.std.specs.Prelude.{◌≡◌, ◌↔◌, [], ◌∷◌, ◌++◌, length, IsTrue, IfOk, OnOk, OnErr, string_bytes};
 
@@ -93,79 +93,4 @@ impl fmt::Display for Text {
     fn fmt<W: fmt::Write>(&self, f: &mut fmt::Formatter<W>) -> fmt::Result {
         f.pad(self.as_str())
     }
-}
-
-/// A list of texts.
-#[derive(Clone, Debug, Drop)]
-pub struct Texts {
-    inner: Vec<Text>,
-}
-
-impl Model for Texts {
-    ghost use Rattle.std.specs.Prelude.{List, ℕ};
-
-    ghost Value = { List (List ℕ) };
-
-    ghost view = { λ t. t.inner.items };
-}
-
-impl Texts {
-    /// No texts, and no memory yet.
-    pub fn new(alloc: Global) -> Self
-        ensures { result ≡ [] }
-    {
-        Texts {
-            inner: Vec::new(alloc),
-        }
-    }
-
-    /// Appends a text. Without memory for it the list stays as it was, and the text is dropped.
-    pub fn push(&mut self, text: Text) -> Result<(), AllocError>
-        ensures ok { OnOk result (self.new ≡ self.old ++ text ∷ []) }
-        ensures err { OnErr result (self.new ≡ self.old) }
-    {
-        self.inner.push(text)?;
-        Ok(())
-    }
-
-    /// The texts as a slice.
-    pub fn as_slice(&self) -> &[Text]
-        ensures { result.now ≡ self.now }
-    {
-        self.inner.as_slice()
-    }
-
-    /// How many texts there are.
-    pub fn len(&self) -> usize
-        ensures { result ≡ length self.now }
-    {
-        self.inner.len()
-    }
-
-    /// Whether there is no text.
-    pub fn is_empty(&self) -> bool
-        ensures { IsTrue result ↔ (self.now ≡ []) }
-    {
-        self.inner.is_empty()
-    }
-}
-
-impl PartialEq for Texts {
-    ghost use Rattle.std.specs.Prelude.{bytes_eq};
-    ghost use Rattle.std.specs.Cmp.{partial_equiv_from_equiv};
-    ghost use Rattle.std.specs.Cmp.Lexicographic.{pointwise, lists_equiv, nat_list_eq_equiv};
-
-    ghost eq = { pointwise bytes_eq };
-
-    ghost laws = { partial_equiv_from_equiv (lists_equiv nat_list_eq_equiv) };
-
-    fn eq(&self, other: &Self) -> bool {
-        self.inner == other.inner
-    }
-}
-
-impl Eq for Texts {
-    ghost use Rattle.std.specs.Cmp.Lexicographic.{lists_equiv, nat_list_eq_equiv};
-
-    ghost laws = { lists_equiv nat_list_eq_equiv };
 }

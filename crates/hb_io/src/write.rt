@@ -1,4 +1,4 @@
-//! Writing all of it.
+//! How are all bytes written, or exactly so many of them?
 
 ghost use Rattle.std.specs.Prelude.{◌≡◌, ◌<◌, ◌≤◌, length, take, IfErr, OnOk, OnErr};
 ghost use Rattle.std.specs.Io.KnownBytes.{Appends};

@@ -1,7 +1,7 @@
-//! Which texts are names.
+//! Which texts are names?
 
 ghost use Rattle.std.specs.Prelude.{◌≡◌, ◌↔◌, IsTrue, IsSome, IfSome};
-ghost use Rattle.hb_io.specs.Names.{IsName, IsNameByte};
+ghost use Rattle.hb_io.specs.NameSpelling.{IsName, IsNameByte};
 
 use super::{NAME_LIMIT, Name};
 
@@ -11,7 +11,7 @@ fn is_name_byte(byte: u8) -> bool
     byte.is_ascii_alphanumeric() || byte == b'_' || byte == b'-'
 }
 
-/// The name that a text spells, or `None` where the text is no name.
+/// The name that a text spells, or `None` if the text is no name.
 pub fn name(text: &str) -> Option<Name>
     ensures valid { IsSome result ↔ IsName text.now }
     ensures value { IfSome result (λ name. name ≡ text.now) }
