@@ -28,6 +28,7 @@ count_of-absent v id none (x ∷ xs) all = pick (same_identity id x) refl (count
     pick false e rest = let more : count_of id (x ∷ xs) ≡ cond (same_identity id x) 1 0 + count_of id xs = sum_by-cons (λ y. cond (same_identity id y) 1 0) x xs in
         let none' : cond {A = ℕ} (same_identity id x) 1 0 ≡ 0 = rw e refl in omega (arith, more, none', rest)
 
+-- a list whose identities are as many as the copies is a deck
 pub IsDeck-counted : (v : Variant) (deck : List Identity) → All (λ id. 0 < copies v id) deck → ((n : ℕ) → n < 30 → count_of (identity n) deck ≡ copies v (identity n)) → IsDeck v deck
 IsDeck-counted v deck all counted id = pick (copies v id) refl
   where

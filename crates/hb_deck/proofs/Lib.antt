@@ -1,3 +1,3 @@
-mod Same
+mod SameDeck
 mod Counts
 mod Ordered

@@ -23,6 +23,7 @@ cards_to v suit rank = flat_map (λ r. replicate (rank_copies (suit_at v suit) r
 copies-in : (v : Variant) (suit rank : ℕ) → suit < 6 → 1 ≤ rank → rank < 6 → copies v (record { suit = suit; rank = rank }) ≡ rank_copies (suit_at v suit) rank
 copies-in v suit rank a b c = rw copies_is (grind arith)
 
+-- the cards of a suit up to one more rank
 pub cards_to-more : (v : Variant) (suit rank : ℕ) → suit < 6 → 1 ≤ rank → rank < 6
     → cards_to v suit (rank - 1) ++ replicate (copies v (record { suit = suit; rank = rank })) (record { suit = suit; rank = rank }) ≡ cards_to v suit rank
 cards_to-more v suit rank low one high =
@@ -34,9 +35,11 @@ cards_to-more v suit rank low one high =
 abbrev pub cards_below : Variant → ℕ → List Identity
 cards_below v suits = flat_map (suit_cards v) (range_with_len 0 suits)
 
+-- the cards of one more suit
 pub cards_below-more : (v : Variant) (suit : ℕ) → cards_below v suit ++ suit_cards v suit ≡ cards_below v (suit + 1)
 cards_below-more v suit = sym (flat_map-range_more (suit_cards v) 0 suit suit (omega arith))
 
+-- those of all suits
 pub cards_below-all : (v : Variant) → cards_below v 6 ≡ cards v
 unfolding cards
 cards_below-all v = refl

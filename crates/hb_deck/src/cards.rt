@@ -9,7 +9,8 @@ use std::alloc::{AllocError, Global};
 
 /// Adds each copy of the identity.
 fn push_copies(list: &mut Vec<Identity>, variant: &Variant, id: Identity) -> Result<(), AllocError>
-    ensures { OnOk result (list.new.items ≡ list.old.items ++ replicate (copies variant.now id) id) }
+    ensures { OnOk result
+        (list.new.items ≡ list.old.items ++ replicate (copies variant.now id) id) }
 {
     for _ in 0..copies(variant, id) {
         list.push(id)?;
@@ -28,7 +29,8 @@ fn push_suit(list: &mut Vec<Identity>, variant: &Variant, suit: u8) -> Result<()
     Ok(())
 }
 
-/// All cards of the variant, in order of identity numbers. The error comes only where memory is refused.
+/// All cards of the variant, in order of identity numbers. The error comes only if memory is
+/// refused.
 pub fn all_cards(alloc: Global, variant: &Variant) -> Result<Vec<Identity>, AllocError>
     ensures { IfOk result (λ list. list.items ≡ cards variant.now) }
 {

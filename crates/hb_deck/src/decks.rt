@@ -60,7 +60,8 @@ fn are_in_variant(variant: &Variant, cards: &[Identity]) -> bool
     cards.iter().all(|&id| copies(variant, id) > 0)
 }
 
-/// Whether the identity with a number stands among the cards as often as the variant has copies of it.
+/// Whether the identity with a number stands among the cards as often as the variant has copies of
+/// it.
 fn is_complete(variant: &Variant, cards: &[Identity], number: u8) -> bool
     requires { number < IDENTITIES }
     ensures { IsTrue result
@@ -85,8 +86,8 @@ fn are_complete(variant: &Variant, cards: &[Identity]) -> bool
     true
 }
 
-/// Whether the cards are a deck of the variant, in any order: each identity stands among them as often as the variant has
-/// copies of it, and nothing else does. It takes no memory.
+/// Whether the cards are a deck of the variant, in any order: each identity stands among them as
+/// often as the variant has copies of it, and nothing else does. It takes no memory.
 pub fn is_deck(variant: &Variant, deck: &[Identity]) -> bool
     ensures { IsTrue result ↔ IsDeck variant.now deck.now }
 {

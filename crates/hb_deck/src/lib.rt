@@ -1,8 +1,9 @@
 //! Decks: which lists of cards are a deck of a variant, and the deck that a seed gives.
 //!
-//! `is_deck` is true exactly where each identity stands in the list as often as the variant has copies of it, and so nothing
-//! else does. `shuffled` gives a deck that depends on the variant, the seed and the stream alone: the list that the clauses of
-//! `rand` and `rand_chacha` name, proved to be a deck of the variant. How well it is mixed is not said.
+//! `is_deck` is true exactly if each identity stands in the list as often as the variant has
+//! copies of it, and so nothing else does. `shuffled` gives a deck that depends on the variant, the
+//! seed and the stream alone: the list that the clauses of `rand` and `rand_chacha` name, proved to
+//! be a deck of the variant. How well it is mixed is not said.
 #![tactic(auto)]
 
 mod cards;

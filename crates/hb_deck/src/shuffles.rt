@@ -30,8 +30,9 @@ fn shuffled_cards(
     Ok(list)
 }
 
-/// All cards of the variant in order of identity numbers, shuffled by `SliceRandom::shuffle` with the `ChaCha20Rng` of the
-/// seed, set to the stream. The same arguments always give the same deck. The error comes only where memory is refused.
+/// All cards of the variant in order of identity numbers, shuffled by `SliceRandom::shuffle` with
+/// the `ChaCha20Rng` of the seed, set to the stream. The same arguments always give the same deck.
+/// The error comes only if memory is refused.
 pub fn shuffled(
     alloc: Global,
     variant: &Variant,

@@ -1,3 +1,3 @@
-pub mod Kept
+pub mod ReviewModel
 pub mod Reviews
-pub mod Steps
+pub mod ReviewSteps

@@ -10,7 +10,8 @@ use hb_rules::Rule;
 pub enum ReviewError {
     /// 1, for a turn to go to: it is above the number of acts of the game.
     NoSuchTurn,
-    /// 2, for a hypothetical act: it breaks this rule on the reviewed game, the first that it breaks.
+    /// 2, for a hypothetical act: it breaks this rule on the reviewed game, the first that it
+    /// breaks.
     Broken(Rule),
     /// 3, for taking back: there is no hypothetical act.
     NothingToUndo,

@@ -1,8 +1,7 @@
 //! A review, and the steps that it takes.
 
 ghost use Rattle.std.specs.Prelude.{◌≡◌, ◌≢◌, ◌≤◌, [], ◌∷◌, length, drop, Some, None, IsSome, IsErrOf, IfErr, OnErr, OnOk};
-ghost use Rattle.hb_rules.specs.Result.{ended};
-ghost use Rattle.hb_rules.specs.Legality.{Legal};
+ghost use Rattle.hb_rules.specs.Positions.{IsLegal, ended};
 ghost use Rattle.hb_review.specs.Reviews.{hypotheticals, turn_of, reviewed, go_refusal, hypo_refusal, undo_refusal, go_step, hypo_step, undo_step, AreTold};
 
 use crate::error::ReviewError;
@@ -24,7 +23,7 @@ pub struct Review {
 }
 
 impl Model for Review {
-    ghost use Rattle.hb_review.specs.Kept.{Walk, IsKept};
+    ghost use Rattle.hb_review.specs.ReviewModel.{Walk, IsKept};
 
     ghost Value = { Walk };
 
@@ -34,7 +33,8 @@ impl Model for Review {
 }
 
 impl Review {
-    /// A review of a game, of which it keeps a copy. It stands at the last turn, with no hypothetical act.
+    /// A review of a game, of which it keeps a copy. It stands at the last turn, with no
+    /// hypothetical act.
     pub fn new(game: &Game) -> Self
         ensures game { result.game ≡ game.now }
         ensures steps { result.steps ≡ [] }
@@ -49,14 +49,14 @@ impl Review {
 
     /// Goes to a turn: so many acts of the game then stand, and no hypothetical act.
     ///
-    /// Refused as [`ReviewError::NoSuchTurn`] exactly where the turn is above the number of acts of the game. A
-    /// refusal changes nothing.
+    /// Refused as [`ReviewError::NoSuchTurn`] exactly if the turn is above the number of acts of
+    /// the game. A refusal changes nothing.
     pub fn go(&mut self, turn: u16) -> Result<(), ReviewError>
-        ensures may { OnOk result (go_refusal self.old.game.past turn ≡ None) }
-        ensures stepped { OnOk result (self.new ≡ record self.old { steps = go_step turn ∷ self.old.steps }) }
+        ensures may { OnOk result (go_refusal self.old.game turn ≡ None) }
+        ensures stepped { OnOk result
+            (self.new ≡ record self.old { steps = go_step turn ∷ self.old.steps }) }
         ensures dropped { OnOk result (hypotheticals self.new.steps ≡ []) }
-
-        ensures refused { IfErr result (λ error. go_refusal self.old.game.past turn ≡ Some error) }
+        ensures refused { IfErr result (λ error. go_refusal self.old.game turn ≡ Some error) }
         ensures unchanged { OnErr result (self.new ≡ self.old) }
     {
         if usize::from(turn) > self.whole.act_count() {
@@ -72,24 +72,24 @@ impl Review {
         Ok(())
     }
 
-    /// Tries an action of the seat whose turn it is on the reviewed game, as one more hypothetical act.
+    /// Tries an action of the seat whose turn it is on the reviewed game, as one more hypothetical
+    /// act.
     ///
-    /// Refused as [`ReviewError::Broken`] exactly where it breaks a rule there, with the first that it breaks. After
-    /// the end of the reviewed game that is [`Rule::GameOver`], and it is never [`Rule::NotYourTurn`]. A refusal
-    /// changes nothing.
-    #[tactic(auto, using(crate::proofs::Walks::current_has_turn, crate::proofs::Walks::ended_is_over))]
+    /// Refused as [`ReviewError::Broken`] exactly if it breaks a rule there, with the first that
+    /// it breaks. After the end of the reviewed game that is [`Rule::GameOver`], and it is never
+    /// [`Rule::NotYourTurn`]. A refusal changes nothing.
+    #[tactic(auto, using(crate::proofs::Walks::current_turn, crate::proofs::Walks::ended_is_over))]
     pub fn hypo(&mut self, action: Action) -> Result<(), ReviewError>
-        ensures may { OnOk result
-            (hypo_refusal self.old.game.setup self.old.game.past self.old.steps action ≡ None) }
-        ensures stepped { OnOk result (self.new
-            ≡ record self.old { steps = hypo_step self.old.game.past self.old.steps action ∷ self.old.steps }) }
+        ensures may { OnOk result (hypo_refusal self.old.game self.old.steps action ≡ None) }
+        ensures stepped { OnOk result (self.new ≡ record self.old {
+          steps = hypo_step self.old.game self.old.steps action ∷ self.old.steps;
+        }) }
         ensures added { OnOk result
             (hypotheticals self.new.steps ≡ action ∷ hypotheticals self.old.steps) }
 
         ensures refused { IfErr result (λ error.
-            hypo_refusal self.old.game.setup self.old.game.past self.old.steps action ≡ Some error) }
-        ensures over { IsSome (ended self.old.game.setup
-            (reviewed self.old.game.setup self.old.game.past self.old.steps))
+            hypo_refusal self.old.game self.old.steps action ≡ Some error) }
+        ensures over { IsSome (ended (reviewed self.old.game self.old.steps))
             → IsErrOf result (ReviewError.Broken Rule.GameOver) }
         ensures own_turn { IfErr result (λ error. error ≢ ReviewError.Broken Rule.NotYourTurn) }
         ensures unchanged { OnErr result (self.new ≡ self.old) }
@@ -108,13 +108,14 @@ impl Review {
 
     /// Takes the last hypothetical act back.
     ///
-    /// Refused as [`ReviewError::NothingToUndo`] exactly where there is no hypothetical act. A refusal changes
-    /// nothing.
+    /// Refused as [`ReviewError::NothingToUndo`] exactly if there is no hypothetical act. A
+    /// refusal changes nothing.
     #[tactic(auto, using(crate::proofs::Walks::shows_acts))]
     pub fn undo(&mut self) -> Result<(), ReviewError>
         ensures may { OnOk result (undo_refusal self.old.steps ≡ None) }
-        ensures stepped { OnOk result (self.new
-            ≡ record self.old { steps = undo_step self.old.game.past self.old.steps ∷ self.old.steps }) }
+        ensures stepped { OnOk result (self.new ≡ record self.old {
+          steps = undo_step self.old.game self.old.steps ∷ self.old.steps;
+        }) }
         ensures taken_back { OnOk result
             (hypotheticals self.new.steps ≡ drop 1 (hypotheticals self.old.steps)) }
 
@@ -134,22 +135,18 @@ impl Review {
         Ok(())
     }
 
-    /// The reviewed game: the deck and the acts of the game up to the turn, and then the hypothetical acts, each by
-    /// the seat whose turn it then was.
+    /// The reviewed game: the deck and the acts of the game up to the turn, and then the
+    /// hypothetical acts, each by the seat whose turn it then was.
     pub fn game(&self) -> Game
-        ensures exact { result ≡ record {
-          setup = self.now.game.setup;
-          past = reviewed self.now.game.setup self.now.game.past self.now.steps;
-        } }
-        ensures legal { Legal result.setup result.past }
+        ensures exact { result ≡ reviewed self.now.game self.now.steps }
+        ensures legal { IsLegal result }
     {
-        self.shown.facts();
         self.shown.same()
     }
 
     /// The turn: how many acts of the game stand. It is at most the number of the game's acts.
     pub fn turn(&self) -> u16
-        ensures exact { result ≡ turn_of self.now.game.past self.now.steps }
+        ensures exact { result ≡ turn_of self.now.game self.now.steps }
         ensures within { result ≤ length self.now.game.past }
     {
         self.turn

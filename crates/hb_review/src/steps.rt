@@ -41,7 +41,7 @@ impl Model for Steps {
 
     ghost Value = { List Step };
 
-    ghost use Rattle.hb_review.specs.Steps.{steps_of};
+    ghost use Rattle.hb_review.specs.ReviewSteps.{steps_of};
 
     ghost view = { λ s. steps_of s.newest.value };
 

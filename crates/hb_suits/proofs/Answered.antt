@@ -8,7 +8,7 @@ use Rattle.hb_rules.specs.declared.variants.Variant.{Variant}
 use Rattle.hb_suits.specs.declared.names.VariantError.{VariantError}
 use Rattle.hb_suits.specs.declared.names.VariantError.TheVariants.{Unknown, BadSpelling}
 use Rattle.hb_suits.specs.Variants.{variant_with}
-use Rattle.hb_suits.specs.Names.{equals, plus, suit_name, is_spelling, is_listed, spelling, Spells, spelled, listed, variant_of}
+use Rattle.hb_suits.specs.VariantNames.{equals, plus, suit_name, is_spelling, is_listed, spelling, Spells, spelled, listed, variant_of}
 use Rattle.hb_suits.proofs.Listed.{listed-some}
 use Rattle.hb_suits.proofs.Joined.{spelled-join, spelled-some}
 
@@ -25,6 +25,7 @@ pub variant_of-spelled : (name text : List ℕ) → name ≡ equals ∷ text →
 unfolding variant_of
 variant_of-spelled name text e = (rw e refl, rw e refl)
 
+-- a name that does not begin with `=` is that of a listed variant
 pub variant_of-listed : (name : List ℕ) → ((text : List ℕ) → name ≢ equals ∷ text) → (is_spelling name ≡ false) × (variant_of name ≡ listed name)
 unfolding variant_of
 variant_of-listed name other = (is_spelling-other name other, rw (is_spelling-other name other) refl)
@@ -34,6 +35,7 @@ pub named-by : (name : List ℕ) (o : Option Variant) (e : VariantError) → var
 named-by name None e is = tt
 named-by name (Some v) e is = is
 
+-- a refusal of a name that has no variant
 pub refused-by : (name : List ℕ) (o : Option Variant) (e : VariantError) → variant_of name ≡ o → OnErr (ok_or o e) (variant_of name ≡ None)
 refused-by name None e is = is
 refused-by name (Some v) e is = tt
@@ -58,6 +60,7 @@ spells-by name text o whole is suits e =
     let same : text ≡ join_with_byte plus (map suit_name suits) = cc in
     ap (λ found. ok_or found BadSpelling) (sym is ∙ (ap spelled same ∙ spelled-join suits))
 
+-- what a name behind `=` spells
 pub spelled-by : (name text : List ℕ) (o : Option Variant) → name ≡ equals ∷ text → spelled text ≡ o → IfOk (ok_or o BadSpelling) (λ v. is_spelling name ≡ true → Spells name v)
 spelled-by name text None whole is = tt
 spelled-by name text (Some v) whole is = λ shape. (let some : (suits : List Suit) × (text ≡ join_with_byte plus (map suit_name suits)) × (variant_with suits None ≡ Some v) = spelled-some text v is in

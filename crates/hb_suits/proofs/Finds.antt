@@ -7,10 +7,12 @@ use Rattle.std.proofs.lemmas.Bool.Decides.{same_from_decides}
 use Rattle.std.proofs.lemmas.List.{append_cancel_right}
 use Rattle.std.proofs.lemmas.Slice.Eq.{bytes_eq-Decides}
 
+-- nothing is found where nothing passes
 pub find-none : {X : Type 0} (p : X → Bool) (xs : List X) → ((x : X) → p x ≡ false) → find p xs ≡ None
 find-none p [] fails = refl
 find-none p (x ∷ xs) fails = rw (fails x) (find-none p xs fails)
 
+-- tests that agree find the same
 pub find-same : {X : Type 0} (p q : X → Bool) (xs : List X) → ((x : X) → p x ≡ q x) → find p xs ≡ find q xs
 find-same p q [] same = refl
 find-same p q (x ∷ xs) same = rw (same x, find-same p q xs same) refl
@@ -28,6 +30,7 @@ choice-map : {X Y : Type 0} (f : X → Y) (b : Bool) (x : X) (o : Option X) → 
 choice-map f true x o = refl
 choice-map f false x o = refl
 
+-- what is found among the images
 pub find-map : {X Y : Type 0} (p : Y → Bool) (f : X → Y) (xs : List X) → find p (map f xs) ≡ option_map f (find (λ x. p (f x)) xs)
 find-map p f [] = refl
 find-map p f (x ∷ xs) = rw (find-map p f xs) (choice-map f (p (f x)) x (find (λ y. p (f y)) xs))

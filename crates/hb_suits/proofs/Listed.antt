@@ -8,7 +8,7 @@ use Rattle.std.proofs.lemmas.List.Folds.{find-append}
 use Rattle.hb_rules.specs.declared.suits.Suit.{Suit}
 use Rattle.hb_rules.specs.declared.variants.Variant.{Variant}
 use Rattle.hb_suits.specs.Variants.{variant_with}
-use Rattle.hb_suits.specs.Names.{Entry, suit_name, plain_table, with_last, with_special, last_suits, special_suits, table, listed, is_listed}
+use Rattle.hb_suits.specs.VariantNames.{Entry, suit_name, plain_table, with_last, with_special, last_suits, special_suits, table, listed, is_listed}
 use Rattle.hb_suits.proofs.Finds.{find-map}
 use Rattle.hb_suits.proofs.Spellings.{both}
 

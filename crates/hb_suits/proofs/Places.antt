@@ -78,6 +78,7 @@ pub variant_with-some : (suits : List Suit) (v : Variant) → v.suits ≡ placed
 unfolding variant_with
 variant_with-some suits v e = rw (← e) (tested-true v (is_variant v.suits v.special) refl v.valid)
 
+-- no variant of suits that are none
 pub variant_with-none : (suits : List Suit) (special : Option Special) → is_variant (placed suits) special ≡ false → variant_with suits special ≡ None
 unfolding variant_with
 variant_with-none suits special e = tested-false (placed suits) special (is_variant (placed suits) special) refl e

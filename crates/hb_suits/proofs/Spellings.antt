@@ -7,7 +7,7 @@ use Rattle.std.proofs.lemmas.List.Folds.{list_all_at}
 use Rattle.hb_rules.specs.declared.suits.Suit.{Suit}
 use Rattle.hb_rules.specs.Suits.{is_variant}
 use Rattle.hb_suits.specs.Variants.{placed, variant_with}
-use Rattle.hb_suits.specs.Names.{suit_named, pieces, are_suits, spelled}
+use Rattle.hb_suits.specs.VariantNames.{suit_named, pieces, are_suits, spelled}
 use Rattle.hb_suits.proofs.Places.{variant_with-none, is_variant-few}
 
 -- the texts behind references
@@ -25,6 +25,7 @@ length-cons : (b : Option Suit) (xs : List Suit) → is_some b ≡ true → leng
 length-cons None xs e = cc
 length-cons (Some s) xs e = omega arith
 
+-- both sides of a conjunction
 pub both : (a b : Bool) → (a && b) ≡ true → (a ≡ true) × (b ≡ true)
 both true true e = (refl, refl)
 both true false e = cc
@@ -72,6 +73,7 @@ filter_map-push : (xs : List (Bor (List ℕ))) (x : Bor (List ℕ)) (s : Suit) �
 filter_map-push [] x s is = rw is refl
 filter_map-push (y ∷ ys) x s is = rw (filter_map-push ys x s is) (cons_option-append (suit_named y.now) (filter_map suit_named (texts ys)) s)
 
+-- one more named suit
 pub named-push : (suits : List Suit) (count : ℕ) (s : Suit) (xs : List (Bor (List ℕ))) (x : Bor (List ℕ)) → count < length suits → take count suits ≡ filter_map suit_named (texts xs) → suit_named x.now ≡ Some s
     → take (count + 1) (set suits count s) ≡ filter_map suit_named (texts (xs ++ x ∷ []))
 named-push suits count s xs x low kept is = rw (take_more_set suits count s low, kept, filter_map-push xs x s is) refl

@@ -1,2 +1,2 @@
 pub mod Variants
-pub mod Names
+pub mod VariantNames

@@ -10,10 +10,11 @@ abbrev pub placed : List Suit → List (Option Suit)
 placed suits = map (λ suit. Some suit) suits ++ replicate (6 - length suits) None
 
 -- the variant with these places, by the answer of the test
-abbrev pub tested : (places : List (Option Suit)) (special : Option Special) (answer : Bool) → is_variant places special ≡ answer → Option Variant
+abbrev pub tested : (places : List (Option Suit)) (special : Option Special) (answer : Bool)
+    → is_variant places special ≡ answer → Option Variant
 tested places special true is = Some (record { suits = places; special = special; valid = is })
 tested places special false is = None
 
--- the variant of these suits in order with this special rank, where they are a variant
+-- the variant of these suits in order with this special rank, if they are a variant
 unfoldable pub variant_with : List Suit → Option Special → Option Variant
 variant_with suits special = tested (placed suits) special (is_variant (placed suits) special) refl

@@ -9,7 +9,7 @@ use crate::suits::suit_at;
 use hb_rules::{HIGHEST_RANK, IDENTITIES, Identity, MOST_SUITS, Suit, Variant};
 use hb_sets::with;
 
-/// How many cards of a rank of 1 to 5 a suit has, and 0 where there is no suit.
+/// How many cards of a rank of 1 to 5 a suit has, and 0 if there is no suit.
 fn rank_copies(suit: Option<Suit>, rank: u8) -> u8
     ensures { result ≡ rank_copies suit rank }
 {
@@ -28,8 +28,9 @@ pub fn in_range(id: Identity) -> bool
     usize::from(id.suit) < MOST_SUITS && (1..=HIGHEST_RANK).contains(&id.rank)
 }
 
-/// How many cards of the identity the variant has, at most 3: three 1s, two each of 2, 3 and 4 and one 5 of each suit (rulebook),
-/// but one of each rank of Black (after Hanabi Live), and none of an identity outside the variant.
+/// How many cards of the identity the variant has, at most 3: three 1s, two each of 2, 3 and 4 and
+/// one 5 of each suit (rulebook), but one of each rank of Black (after Hanabi Live), and none of an
+/// identity outside the variant.
 #[tactic(auto, using(hb_rules::proofs::Copies::copies_is))]
 pub fn copies(variant: &Variant, id: Identity) -> u8
     ensures copies { result ≡ copies variant.now id }
@@ -42,7 +43,7 @@ pub fn copies(variant: &Variant, id: Identity) -> u8
     }
 }
 
-/// How many cards the suit at an index has, and 0 where the variant has no suit there.
+/// How many cards the suit at an index has, and 0 if the variant has no suit there.
 fn suit_size(variant: &Variant, index: u8) -> u8
     ensures size { result ≡ length (suit_cards variant.now index) }
     ensures few { result ≤ 10 }

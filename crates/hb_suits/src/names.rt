@@ -6,7 +6,7 @@ ghost use Rattle.std.specs.Str.{bytes_eq};
 ghost use Rattle.hb_rules.specs.declared.suits.Suit.{Suit};
 ghost use Rattle.hb_rules.specs.Suits.{kind_of};
 ghost use Rattle.hb_suits.specs.Variants.{variant_with};
-ghost use Rattle.hb_suits.specs.Names.{suit_name, suit_named, plain, plain_table, is_listed, listed, spelling, is_spelling, Spells, spelled, variant_of};
+ghost use Rattle.hb_suits.specs.VariantNames.{suit_name, suit_named, plain, plain_table, is_listed, listed, spelling, is_spelling, Spells, spelled, variant_of};
 
 use crate::suits::kind_of;
 use crate::variants::variant_with;
@@ -100,10 +100,12 @@ fn suit_named(name: &str) -> Option<Suit>
     suit_among(&PLAIN_SUITS, name).or_else(|| suit_among(&LAST_SUITS, name))
 }
 
-/// How many plain suits make the variant with a listed name, where it has no other suit and no special rank.
+/// How many plain suits make the variant with a listed name, if it has no other suit and no
+/// special rank.
 fn plain_count(name: &str) -> Option<usize>
     ensures { let found = find (λ entry. bytes_eq entry.name name.now) plain_table in
-        MatchOption result (found ≡ None) (λ count. (count ≤ 6) × (found ≡ Some (plain name.now count))) }
+        MatchOption result (found ≡ None)
+        (λ count. (count ≤ 6) × (found ≡ Some (plain name.now count))) }
 {
     match name {
         "3 Suits" => Some(3),
@@ -162,11 +164,12 @@ fn spelled(text: &str) -> Option<Variant>
     variant_with(&suits[..count], None)
 }
 
-/// The variant with a name, which is one of the 36 listed names, or `=` and the names of three to six different suits joined by
-/// `+`, at least one of which has a clue colour (both this project's own). Letters are compared as they stand.
+/// The variant with a name, which is one of the 36 listed names, or `=` and the names of three to
+/// six different suits joined by `+`, at least one of which has a clue colour (both this project's
+/// own). Letters are compared as they stand.
 ///
-/// `Unknown` comes exactly for a name that does not begin with `=` and is not in the list, and `BadSpelling` exactly for one
-/// that begins with `=` and spells no variant.
+/// `Unknown` comes exactly for a name that does not begin with `=` and is not in the list, and
+/// `BadSpelling` exactly for one that begins with `=` and spells no variant.
 pub fn variant(name: &str) -> Result<Variant, VariantError>
     ensures named { IfOk result (λ v. variant_of name.now ≡ Some v) }
     ensures refused { OnErr result (variant_of name.now ≡ None) }
@@ -175,7 +178,8 @@ pub fn variant(name: &str) -> Result<Variant, VariantError>
     ensures misspelled { (result ≡ Err VariantError.BadSpelling)
         ↔ ((is_spelling name.now ≡ true) × (variant_of name.now ≡ None)) }
 
-    // The spelled names once more, each by its list of suits: `variant_of` cuts a text at each `+`, and these two clauses do not.
+    // The spelled names once more, each by its list of suits: `variant_of` cuts a text at each `+`,
+    // and these two clauses do not.
     ensures spells { (suits : List Suit) → name.now ≡ spelling suits
         → result ≡ ok_or (variant_with suits None) VariantError.BadSpelling }
     ensures spelled { IfOk result (λ v. is_spelling name.now ≡ true → Spells name.now v) }

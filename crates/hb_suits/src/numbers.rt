@@ -6,8 +6,8 @@ ghost use Rattle.hb_rules.specs.declared.limits.TheConstants.{IDENTITIES};
 
 use hb_rules::{HIGHEST_RANK, IDENTITIES, Identity};
 
-/// The number of an identity, 0 to 29 (this project's own): the five ranks of suit 0 come first, then those of suit 1, and
-/// so on. The identity has a suit index of 0 to 5 and a rank of 1 to 5.
+/// The number of an identity, 0 to 29 (this project's own): the five ranks of suit 0 come first,
+/// then those of suit 1, and so on. The identity has a suit index of 0 to 5 and a rank of 1 to 5.
 pub fn number(id: Identity) -> u8
     requires { IsTrue (in_range id) }
     ensures number { result ≡ number id }

@@ -29,14 +29,15 @@ pub fn kind_of(suit: Suit) -> Kind
     }
 }
 
-/// Whether suits of this kind have a clue colour (this project's own): all but those that every colour or no colour touches.
+/// Whether suits of this kind have a clue colour (this project's own): all but those that every
+/// colour or no colour touches.
 pub(crate) fn has_color(kind: Kind) -> bool
     ensures { result ≡ has_color kind }
 {
     matches!(kind, Kind::Plain | Kind::Pink | Kind::Brown | Kind::Black)
 }
 
-/// The suit with this index, and `None` exactly where the variant has no such index.
+/// The suit with this index, and `None` exactly if the variant has no such index.
 pub fn suit_at(variant: &Variant, index: u8) -> Option<Suit>
     ensures { result ≡ suit_at variant.now index }
 {
@@ -59,7 +60,8 @@ fn has_color_at(variant: &Variant, index: u8) -> bool
     suit_at(variant, index).is_some_and(|suit| has_color(kind_of(suit)))
 }
 
-/// The indices of the suits that have a clue colour, ascending. A colour clue names a place in this list.
+/// The indices of the suits that have a clue colour, ascending. A colour clue names a place in this
+/// list.
 pub fn color_suits(variant: &Variant) -> ArrayVec<u8, MOST_SUITS>
     ensures { result.items ≡ colors variant.now }
 {

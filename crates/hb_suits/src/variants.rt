@@ -56,7 +56,7 @@ fn have_color(suits: &[Suit]) -> bool
     suits.iter().any(|&suit| has_color(kind_of(suit)))
 }
 
-/// Whether the special rank, where there is one, is 1 to 5 and stands over plain suits alone.
+/// Whether the special rank, if there is one, is 1 to 5 and stands over plain suits alone.
 fn stands_over(special: Option<Special>, suits: &[Suit]) -> bool
     ensures { result ≡ stands_over special suits.now }
 {
@@ -76,7 +76,8 @@ fn is_variant(suits: &[Suit], special: Option<Special>) -> bool
         && stands_over(special, suits)
 }
 
-/// The variant of these suits in order with this special rank, and `None` exactly where they are none.
+/// The variant of these suits in order with this special rank, and `None` exactly if they are
+/// none.
 pub(crate) fn variant_with(suits: &[Suit], special: Option<Special>) -> Option<Variant>
     ensures { result ≡ variant_with suits.now special }
 {

@@ -1,8 +1,9 @@
 //! Clues: which of them a variant offers, and which cards a clue touches.
 //!
-//! Each contract gives the exact answer of the definitions in `hb_rules`, where the touch table stands row by row: `offers` says
-//! whether a variant has a clue, `touches` whether the clue touches a card of an identity, and `mask` which of the variant's
-//! identities it touches, or which it does not, as one set. The table is this project's own. No call takes memory.
+//! Each contract gives the exact answer of the definitions in `hb_rules`, where the touch table
+//! stands row by row: `offers` says whether a variant has a clue, `touches` whether the clue
+//! touches a card of an identity, and `mask` which of the variant's identities it touches, or which
+//! it does not, as one set. The table is this project's own. No call takes memory.
 #![tactic(auto)]
 
 ghost use Rattle.std.specs.Prelude.{◌≡◌, ℕ, ◌≤◌, ◌==◌, ◌&&◌, IsTrue};
@@ -32,8 +33,9 @@ fn hides_special(special: Option<Special>, rank: u8) -> bool
     special.is_some_and(|special| special.rank == rank && hides_rank(special.kind))
 }
 
-/// Whether the variant has the clue: a colour clue names one of its clue colours by index, and a rank clue a rank of 1 to 5,
-/// but not the special rank where its kind is Pink, Brown, Omni or Null (this project's own).
+/// Whether the variant has the clue: a colour clue names one of its clue colours by index, and a
+/// rank clue a rank of 1 to 5, but not the special rank if its kind is Pink, Brown, Omni or Null
+/// (this project's own).
 pub fn offers(variant: &Variant, clue: Clue) -> bool
     ensures { result ≡ offers variant.now clue }
 {
@@ -44,7 +46,7 @@ pub fn offers(variant: &Variant, clue: Clue) -> bool
     }
 }
 
-/// The kind of the suit at an index; where there is no suit, nothing touches.
+/// The kind of the suit at an index; if there is no suit, nothing touches.
 fn kind_at(variant: &Variant, index: u8) -> Kind
     ensures { result ≡ suit_kind (suit_at variant.now index) }
 {
@@ -54,7 +56,8 @@ fn kind_at(variant: &Variant, index: u8) -> Kind
     }
 }
 
-/// The row of the touch table for a card: that of the special kind where the rank is special, else that of its suit's.
+/// The row of the touch table for a card: that of the special kind if the rank is special, else
+/// that of its suit's.
 fn row_of(special: Option<Special>, own: Kind, rank: u8) -> Kind
     ensures { result ≡ row_of special own rank }
 {
@@ -64,8 +67,9 @@ fn row_of(special: Option<Special>, own: Kind, rank: u8) -> Kind
     }
 }
 
-/// Whether a colour clue touches a card with this row of the table. `own` says that it is the colour of the card's suit, and
-/// `turn` that its index is the card's rank minus one, modulo the number of clue colours.
+/// Whether a colour clue touches a card with this row of the table. `own` says that it is the
+/// colour of the card's suit, and `turn` that its index is the card's rank minus one, modulo the
+/// number of clue colours.
 fn color_touches(row: Kind, own: bool, turn: bool) -> bool
     ensures { result ≡ color_touches row own turn }
 {
@@ -77,7 +81,8 @@ fn color_touches(row: Kind, own: bool, turn: bool) -> bool
     }
 }
 
-/// Whether an offered rank clue touches a card with this row of the table. `own` says that the rank is the card's.
+/// Whether an offered rank clue touches a card with this row of the table. `own` says that the rank
+/// is the card's.
 fn rank_touches(row: Kind, own: bool) -> bool
     ensures { result ≡ rank_touches row own }
 {
@@ -106,8 +111,8 @@ fn touches_by(variant: &Variant, clue_colors: &[u8], clue: Clue, id: Identity) -
     }
 }
 
-/// Whether the clue touches a card of the identity, by the touch table (this project's own). The variant offers the clue,
-/// and the rank is not 0.
+/// Whether the clue touches a card of the identity, by the touch table (this project's own). The
+/// variant offers the clue, and the rank is not 0.
 pub fn touches(variant: &Variant, clue: Clue, id: Identity) -> bool
     requires offered { IsTrue (offers variant.now clue) }
     requires ranked { 1 ≤ id.rank }
@@ -130,8 +135,8 @@ fn is_in_mask(variant: &Variant, clue_colors: &[u8], clue: Clue, touched: bool, 
     copies(variant, id) > 0 && touches_by(variant, clue_colors, clue, id) == touched
 }
 
-/// The set of the variant's identities that the clue touches, or with `touched` false of those that it does not touch: bit
-/// `n` stands for the identity with number `n`. The variant offers the clue.
+/// The set of the variant's identities that the clue touches, or with `touched` false of those that
+/// it does not touch: bit `n` stands for the identity with number `n`. The variant offers the clue.
 #[tactic(auto, using(hb_rules::proofs::Numbers::has_number_low))]
 pub fn mask(variant: &Variant, clue: Clue, touched: bool) -> u64
     requires { IsTrue (offers variant.now clue) }

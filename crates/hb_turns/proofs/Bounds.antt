@@ -11,13 +11,14 @@ use Rattle.hb_rules.specs.Cards.{same_identity, identity}
 use Rattle.hb_rules.specs.Marks.{gone_copies}
 use Rattle.hb_rules.specs.Setup.{card, deal_size}
 use Rattle.hb_rules.specs.Hands.{removed, left}
-use Rattle.hb_rules.specs.Result.{height, lost, lost_copies, lost_by, turns, tokens, strikes, emptied, or_else, ended, called, is_last_round_over}
+use Rattle.std.specs.Option.{option_or}
+use Rattle.hb_rules.specs.Result.{height, lost, lost_copies, lost_by, turns, tokens, strikes, emptied, ended, called, is_last_round_over}
 use Rattle.hb_rules.specs.Legality.{Legal, rule}
 use Rattle.hb_rules.proofs.Rules.{may_runs, may_discard, may_clue, MayClue}
 use Rattle.hb_rules.proofs.Heights.{height-le, turns-le, strikes-le, tokens-le}
 use Rattle.hb_turns.specs.declared.table.Table.{Table}
-use Rattle.hb_turns.specs.Kept.{IsFair, IsTable}
-use Rattle.hb_turns.specs.Steps.{HasRoom}
+use Rattle.hb_turns.specs.GameInvariant.{IsFair, IsTable}
+use Rattle.hb_turns.specs.TableSteps.{HasRoom}
 use Rattle.hb_turns.proofs.Fair.{rank-le}
 
 -- each act puts at most one order on the discards
@@ -151,7 +152,7 @@ says-new g past within = pick (left g past == 0) refl
 
 -- an act more changes no moment at which the deck was empty
 says-step : (g : Setup) (past : List Act) (who : ℕ) (a : Action) (o : Option ℕ) → DeckSays g past o
-    → DeckSays g (record { who = who; action = a } ∷ past) (or_else o (if left g (record { who = who; action = a } ∷ past) == 0 then Some (turns (record { who = who; action = a } ∷ past)) else None))
+    → DeckSays g (record { who = who; action = a } ∷ past) (option_or o (if left g (record { who = who; action = a } ∷ past) == 0 then Some (turns (record { who = who; action = a } ∷ past)) else None))
 says-step g past who (action.Play order) (Some e) h = (omega (arith, h.0), omega (arith, h.1))
 says-step g past who (action.Discard order) (Some e) h = (omega (arith, h.0), omega (arith, h.1))
 says-step g past who (action.Clue to clue) (Some e) h = (omega (arith, h.0), omega (arith, h.1))
@@ -171,7 +172,7 @@ in-last-round g [] two legal runs e here = omega arith
 in-last-round g (act ∷ past) two legal runs e here = pick (emptied g past) refl (in-last-round g past two legal.1 (may_runs g past act.who act.action legal.0))
   where
     pick : (o : Option ℕ) → emptied g past ≡ o → ((f : ℕ) → emptied g past ≡ Some f → turns past < f + g.players) → turns (act ∷ past) < e + g.players
-    pick None was ih = let now : or_else None (if left g (act ∷ past) == 0 then Some (turns (act ∷ past)) else None) ≡ Some e = rw was at here in grind arith
+    pick None was ih = let now : option_or None (if left g (act ∷ past) == 0 then Some (turns (act ∷ past)) else None) ≡ Some e = rw was at here in grind arith
     pick (Some f) was ih = let now : Some f ≡ Some e = rw was at here in let before : turns past < f + g.players = ih f was in
         let over : is_last_round_over g (emptied g (act ∷ past)) (turns (act ∷ past)) ≡ false = (not-called g (act ∷ past) runs).1 in
         let over' : is_last_round_over g (Some e) (turns (act ∷ past)) ≡ false = rw here at over in grind arith

@@ -7,7 +7,8 @@ use Rattle.hb_rules.specs.declared.acts.Action.TheVariants as action
 use Rattle.hb_rules.specs.declared.setups.Setup.{Setup}
 use Rattle.hb_rules.specs.Setup.{deal_size}
 use Rattle.hb_rules.specs.Hands.{removed, left}
-use Rattle.hb_rules.specs.Result.{emptied, turns, or_else}
+use Rattle.std.specs.Option.{option_or}
+use Rattle.hb_rules.specs.Result.{emptied, turns}
 
 left-step : (g : Setup) (past : List Act) (who : ℕ) (act : Action) → left g (record { who = who; action = act } ∷ past) ≤ left g past
 left-step g past who (action.Play order) = omega arith
@@ -15,7 +16,7 @@ left-step g past who (action.Discard order) = omega arith
 left-step g past who (action.Clue to clue) = omega arith
 left-step g past who (action.End how) = omega arith
 
-either : (o : Option ℕ) (before after n : ℕ) → is_some o ≡ (before == 0) → after ≤ before → is_some (or_else o (if after == 0 then Some n else None)) ≡ (after == 0)
+either : (o : Option ℕ) (before after n : ℕ) → is_some o ≡ (before == 0) → after ≤ before → is_some (option_or o (if after == 0 then Some n else None)) ≡ (after == 0)
 either (Some e) before after n was le = grind arith
 either None before after n was le = grind arith
 
@@ -24,21 +25,21 @@ pub emptied-left : (g : Setup) (past : List Act) → is_some (emptied g past) �
 emptied-left g [] = grind arith
 emptied-left g (act ∷ past) = either (emptied g past) (left g past) (left g (act ∷ past)) (turns (act ∷ past)) (emptied-left g past) (left-step g past act.who act.action)
 
-first : (o : Option ℕ) (before n : ℕ) → is_some o ≡ (before == 0) → or_else o (if before == 0 then Some n else None) ≡ o
+first : (o : Option ℕ) (before n : ℕ) → is_some o ≡ (before == 0) → option_or o (if before == 0 then Some n else None) ≡ o
 first (Some e) before n was = grind arith
 first None before n was = grind arith
 
 -- a clue or a called end draws nothing
-pub emptied-clue : (g : Setup) (past : List Act) → (n : ℕ) → or_else (emptied g past) (if left g past == 0 then Some n else None) ≡ emptied g past
+pub emptied-clue : (g : Setup) (past : List Act) → (n : ℕ) → option_or (emptied g past) (if left g past == 0 then Some n else None) ≡ emptied g past
 emptied-clue g past n = first (emptied g past) (left g past) n (emptied-left g past)
 
-drawn-last : (o : Option ℕ) (count next n : ℕ) → is_some o ≡ (count - next == 0) → or_else o (if count - (next + 1) == 0 then Some n else None) ≡ (if next + 1 == count then Some n else o)
+drawn-last : (o : Option ℕ) (count next n : ℕ) → is_some o ≡ (count - next == 0) → option_or o (if count - (next + 1) == 0 then Some n else None) ≡ (if next + 1 == count then Some n else o)
 drawn-last (Some e) count next n was = grind arith
 drawn-last None count next n was = grind arith
 
 -- a play or discard, which makes r of them, empties the deck where it draws the last card
 pub emptied-draw : (g : Setup) (past : List Act) (n r : ℕ) → r ≡ length (removed past) + 1
-    → or_else (emptied g past) (if length g.deck.items - (deal_size g + r) == 0 then Some n else None)
+    → option_or (emptied g past) (if length g.deck.items - (deal_size g + r) == 0 then Some n else None)
     ≡ (if deal_size g + length (removed past) + 1 == length g.deck.items then Some n else emptied g past)
 emptied-draw g past n r is =
     let e : deal_size g + r ≡ deal_size g + length (removed past) + 1 = omega arith in

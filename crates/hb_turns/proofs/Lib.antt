@@ -1,9 +1,14 @@
 pub mod Start
 pub mod Fair
+pub mod Seats
 pub mod Emptied
-pub mod Steps
+pub mod ClueMaskLemmas
+pub mod NextMember
+pub mod HandBits
 pub mod Narrow
+pub mod Steps
+pub mod EndLemmas
 pub mod Bounds
 pub mod Acts
 pub mod Views
-pub mod Bits
+pub mod OrderBits

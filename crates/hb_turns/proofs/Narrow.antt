@@ -1,55 +1,78 @@
--- A clue narrows the marks of one order after another.
-use Rattle.std.proofs.Common.{◌≡◌, ◌≢◌, ℕ, ◌+◌, ◌<◌, ⊎_elim, Bool, true, false, List, refl, arith, length, Some, None, Option, min, subst}
-use Rattle.std.specs.Option.{option_eq}
-use Rattle.std.specs.Prelude.{eqb, ◌==◌, ◌&&◌, nat_lt, if◌then◌else◌, slice_index, slice_index_or, slice_set}
+-- A clue narrows the marks of one order of a hand after another.
+use Rattle.std.proofs.Common.{subst, zero, suc, ◌≡◌, ◌≢◌, ℕ, ◌+◌, ◌%◌, ◌<◌, ◌≤◌, ⊎_elim, Bool, true, false, List, [], ◌∷◌, ◌++◌, refl, arith, length, min, ap}
+use Rattle.std.specs.Prelude.{◌==◌, ◌&&◌, ◌||◌, nat_lt, if◌then◌else◌, slice_index, slice_set, filter}
+use Rattle.std.specs.List.{list_any, range_with_len}
 use Rattle.std.proofs.lemmas.Bool.{cases_eq}
 use Rattle.std.proofs.lemmas.List.{length-set, get_or-set_same, get_or-set_other}
-use Rattle.hb_rules.specs.declared.acts.Clue.{Clue}
+use Rattle.std.proofs.lemmas.List.Folds.{list_any-append}
 use Rattle.hb_rules.specs.declared.setups.Setup.{Setup}
-use Rattle.hb_rules.specs.declared.suits.Identity.{Identity}
-use Rattle.hb_rules.specs.Cards.{identity, has_number}
-use Rattle.hb_rules.specs.Setup.{card}
-use Rattle.hb_rules.specs.Touch.{touches}
-use Rattle.hb_rules.specs.Hands.{is_at}
 use Rattle.hb_rules.specs.Marks.{same}
+use Rattle.hb_rules.proofs.Ranges.{filter-range_more}
 use Rattle.hb_sets.specs.Sets.{bit}
-use Rattle.hb_turns.specs.Steps.{IsNarrowed}
+use Rattle.hb_turns.specs.TableSteps.{IsNarrowed, is_among, is_alike}
 
--- the test of a holder against a seat
-pub at-eq : (o : Option ℕ) (k : ℕ) (b : Bool) → b ≡ option_eq eqb o (Some k) → is_at o k ≡ b
-at-eq None k b e = grind arith
-at-eq (Some n) k b e = grind arith
+-- a member of what is met is a member before, and alike with the card
+pub alike-touched : (m mark all touched : ℕ) (own : Bool) → m ≡ min mark touched → mark < 2 → all < 2 → touched ≤ all → own ≡ true
+    → (m == 1) ≡ ((mark == 1) && ((all == 1) && same own (touched == 1)))
+alike-touched m mark all touched true e low low' within is = grind arith
+alike-touched m mark all touched false e low low' within is = cc
 
--- an identity is in both sets
-pub meet-is : (a b m : ℕ) (p q : Bool) → m ≡ min a b → a < 2 → b < 2 → (a == 1) ≡ p → (b == 1) ≡ q → (m == 1) ≡ (p && q)
-meet-is a b m p q e low low' f h = grind arith
+-- the same where the card is not touched
+pub alike-other : (m mark all touched other : ℕ) (own : Bool) → m ≡ min mark other → other ≡ (all + touched) % 2 → mark < 2 → all < 2 → touched ≤ all → own ≡ false
+    → (m == 1) ≡ ((mark == 1) && ((all == 1) && same own (touched == 1)))
+alike-other m mark all touched other false e f low low' within is = grind arith
+alike-other m mark all touched other true e f low low' within is = cc
 
 -- before the first order nothing is narrowed
-pub narrowed_none : (g : Setup) (holders : List (Option ℕ)) (to : ℕ) (clue : Clue) (marks : List ℕ) → IsNarrowed g holders to clue marks marks 0
-narrowed_none g holders to clue marks = record { long = refl; bits = λ k n. grind arith }
+pub narrowed_none : (g : Setup) (all touched : ℕ) (marks : List ℕ) → IsNarrowed g [] all touched marks marks
+narrowed_none g all touched marks = record { long = refl; bits = λ k n. grind arith }
 
--- the tests of an order below a bound, one order on
-below-same : (k i : ℕ) (at b : Bool) → k ≢ i → (if nat_lt k (i + 1) && at then b else true) ≡ (if nat_lt k i && at then b else true)
-below-same k i at b ne = grind arith
+-- an order behind others
+among-more : (xs : List ℕ) (x k : ℕ) → is_among (xs ++ x ∷ []) k ≡ (is_among xs k || x == k)
+among-more xs x k = rw (list_any-append (λ order. order == k) xs (x ∷ [])) (grind arith)
 
-pub narrowed_kept : (g : Setup) (holders : List (Option ℕ)) (to : ℕ) (clue : Clue) (old mid : List ℕ) (i : ℕ) → IsNarrowed g holders to clue old mid i → is_at (slice_index_or holders i None) to ≡ false
-    → IsNarrowed g holders to clue old mid (i + 1)
-narrowed_kept g holders to clue old mid i m at = record {
-  long = m.long;
-  bits = λ k n. ⊎_elim
-      (λ (e : k ≡ i). let a : is_at (slice_index_or holders k None) to ≡ false = rw e at in let b = m.bits k n in grind (arith, a, b))
-      (λ (ne : k ≢ i). rw (below-same k i (is_at (slice_index_or holders k None) to) (has_number g.variant n && same (touches g.variant clue (card g k)) (touches g.variant clue (identity n))) ne) (m.bits k n))
-      (cases_eq k i);
-}
+bit-more : (old mid new before here alike : Bool) → mid ≡ (old && (if before then alike else true)) → new ≡ (mid && alike) → here ≡ true
+    → new ≡ (old && (if before || here then alike else true))
+bit-more old mid new before here alike e f h = grind arith
 
-pub narrowed_more : (g : Setup) (holders : List (Option ℕ)) (to : ℕ) (clue : Clue) (old mid : List ℕ) (i w : ℕ) (id : Identity) → i < length mid → id ≡ card g i → IsNarrowed g holders to clue old mid i → is_at (slice_index_or holders i None) to ≡ true
-    → ((n : ℕ) → (bit w n == 1) ≡ ((bit (slice_index mid i) n == 1) && (has_number g.variant n && same (touches g.variant clue id) (touches g.variant clue (identity n)))))
-    → IsNarrowed g holders to clue old (slice_set mid i w) (i + 1)
-narrowed_more g holders to clue old mid i w id in_range here m at is = record {
+bit-kept : (old mid before here alike : Bool) → mid ≡ (old && (if before then alike else true)) → here ≡ false
+    → mid ≡ (old && (if before || here then alike else true))
+bit-kept old mid before here alike e h = grind arith
+
+-- the next order of the hand
+pub narrowed_more : (g : Setup) (hand : List ℕ) (all touched : ℕ) (old mid : List ℕ) (x w : ℕ) → x < length mid → IsNarrowed g hand all touched old mid
+    → ((n : ℕ) → (bit w n == 1) ≡ ((bit (slice_index mid x) n == 1) && is_alike g all touched x n))
+    → IsNarrowed g (hand ++ x ∷ []) all touched old (slice_set mid x w)
+narrowed_more g hand all touched old mid x w low m is = record {
   long = rw length-set m.long;
-  bits = λ k n. ⊎_elim
-      (λ (e : k ≡ i). rw e (rw get_or-set_same (let a : (bit (slice_index mid i) n == 1) ≡ ((bit (slice_index old i) n == 1) && (if nat_lt i i && is_at (slice_index_or holders i None) to then has_number g.variant n && same (touches g.variant clue (card g i)) (touches g.variant clue (identity n)) else true)) = m.bits i n in
-      let b : (bit w n == 1) ≡ ((bit (slice_index mid i) n == 1) && (has_number g.variant n && same (touches g.variant clue (card g i)) (touches g.variant clue (identity n)))) = subst (λ x. (bit w n == 1) ≡ ((bit (slice_index mid i) n == 1) && (has_number g.variant n && same (touches g.variant clue x) (touches g.variant clue (identity n))))) here (is n) in grind (arith, a, b, at))))
-      (λ (ne : k ≢ i). rw get_or-set_other (rw (below-same k i (is_at (slice_index_or holders k None) to) (has_number g.variant n && same (touches g.variant clue (card g k)) (touches g.variant clue (identity n))) ne) (m.bits k n)))
-      (cases_eq k i);
+  bits = λ k n. rw (among-more hand x k) (⊎_elim
+      (λ (e : k ≡ x). let h : (x == k) ≡ true = grind arith in
+      bit-more (bit (slice_index old k) n == 1) (bit (slice_index mid k) n == 1) _ (is_among hand k) (x == k) (is_alike g all touched k n) (m.bits k n)
+      (rw e (rw get_or-set_same (is n))) h)
+      (λ (ne : k ≢ x). let h : (x == k) ≡ false = grind arith in
+      rw get_or-set_other (bit-kept (bit (slice_index old k) n == 1) (bit (slice_index mid k) n == 1) (is_among hand k) (x == k) (is_alike g all touched k n) (m.bits k n) h))
+      (cases_eq k x));
 }
+
+any-one : (b : Bool) (n k : ℕ) → list_any (λ order. order == k) (if b then n ∷ [] else []) ≡ (b && (n == k))
+any-one true n k = grind arith
+any-one false n k = refl
+
+one-more : (k n : ℕ) (here there : Bool) → (k ≡ n → here ≡ there) → ((nat_lt k n && here) || (there && (n == k))) ≡ (nat_lt k (n + 1) && here)
+one-more k n true true h = grind arith
+one-more k n true false h = ⊎_elim (λ (e : k ≡ n). let no : true ≡ false = h e in cc) (λ (ne : k ≢ n). grind arith) (cases_eq k n)
+one-more k n false true h = ⊎_elim (λ (e : k ≡ n). let no : false ≡ true = h e in cc) (λ (ne : k ≢ n). grind arith) (cases_eq k n)
+one-more k n false false h = grind arith
+
+among-filter_more : (p : ℕ → Bool) (n k : ℕ) → is_among (filter p (range_with_len 0 n)) k ≡ (nat_lt k n && p k)
+    → is_among (filter p (range_with_len 0 (n + 1))) k ≡ (nat_lt k (n + 1) && p k)
+among-filter_more p n k ih =
+    rw (filter-range_more, list_any-append (λ order. order == k) (filter p (range_with_len 0 n)) (if p n then n ∷ [] else []), ih, any-one (p n) n k)
+    (one-more k n (p k) (p n) (λ e. ap p e))
+
+-- the numbers that pass below a bound
+pub among-filter : (p : ℕ → Bool) (n k : ℕ) → is_among (filter p (range_with_len 0 n)) k ≡ (nat_lt k n && p k)
+among-filter p zero k = grind arith
+among-filter p (suc n) k =
+    let one : n + 1 ≡ suc n = omega arith in
+    subst (λ m. is_among (filter p (range_with_len 0 m)) k ≡ (nat_lt k m && p k)) one (among-filter_more p n k (among-filter p n k))

@@ -6,11 +6,16 @@ use Rattle.hb_rules.specs.declared.suits.Identity.{Identity}
 use Rattle.hb_rules.specs.declared.setups.Setup.{Setup}
 use Rattle.hb_rules.specs.Setup.{card}
 use Rattle.hb_rules.specs.declared.acts.Act.{Act}
+use Rattle.hb_rules.specs.declared.acts.EndHow.{EndHow}
+use Rattle.hb_turns.specs.declared.masks.ClueMasks.{ClueMasks}
 use Rattle.hb_turns.specs.declared.table.Table.{Table}
 use Rattle.hb_rules.specs.Start.{CanStart}
 use Rattle.hb_rules.proofs.DeckSize.{deck-few, deck-many, deal-few, deck-card}
 use Rattle.hb_sets.specs.Sets.{bit}
-use Rattle.hb_turns.specs.Kept.{IsFair, IsGame}
+use Rattle.hb_sets.proofs.Bits.{bit-zero}
+use Rattle.hb_rules.specs.Hands.{is_at}
+use Rattle.hb_turns.specs.Dealt.{dealt_to}
+use Rattle.hb_turns.specs.GameInvariant.{IsFair, IsGame}
 
 nobody : (n k : ℕ) → slice_index_or {A = Option ℕ} (replicate n None) k None ≡ None
 nobody zero k = refl
@@ -21,16 +26,23 @@ nobody (suc n) (suc k) = nobody n k
 pub none-dealt : (n k x : ℕ) → slice_index_or {A = Option ℕ} (replicate n None) k None ≡ (if nat_lt k 0 then Some x else None)
 none-dealt n k x = let e : slice_index_or {A = Option ℕ} (replicate n None) k None ≡ None = nobody n k in grind (arith, e)
 
+-- each place of a list of zeros
 pub zeros : (n k : ℕ) → slice_index (replicate n 0) k ≡ 0
 zeros zero k = refl
 zeros (suc n) zero = refl
 zeros (suc n) (suc k) = zeros n k
 
+-- at first no seat holds anything
+pub none-held : (g : Setup) (s k : ℕ) → (bit (slice_index (replicate 6 0) s) k == 1) ≡ is_at (dealt_to g 0 k) s
+none-held g s k = let e : bit 0 k ≡ 0 = bit-zero k in rw zeros (grind arith)
+
+-- each place of a list of one number
 pub same-all : (w n k : ℕ) → k < n → slice_index (replicate n w) k ≡ w
 same-all w zero k low = absurd (omega arith)
 same-all w (suc n) zero low = refl
 same-all w (suc n) (suc k) low = same-all w n k (omega arith)
 
+-- before any clue each card may be any identity of the variant
 pub all-marked : (w : ℕ) (has : ℕ → Bool) → ((n : ℕ) → (bit w n == 1) ≡ has n) → (k n : ℕ) → k < 60 → (bit (slice_index (replicate 60 w) k) n == 1) ≡ (has n && true)
 all-marked w has is k n low = let e : (bit (slice_index (replicate 60 w) k) n == 1) ≡ has n = ap (λ x. bit x n == 1) (same-all w 60 k low) ∙ is n in grind (arith, e)
 
@@ -61,5 +73,5 @@ fair-start g can =
     }
 
 -- a copy keeps what the game keeps
-pub same-kept : (g h : Setup) (items copy : List Act) (t : Table) → h ≡ g → copy ≡ items → IsGame g (reverse items) t → IsGame h (reverse copy) t
-same-kept g h items copy t e f kept = rw (e, f) kept
+pub same-kept : (g h : Setup) (items copy : List Act) (t : Table) (masks : ClueMasks) (end : Option EndHow) → h ≡ g → copy ≡ items → IsGame g (reverse items) t masks end → IsGame h (reverse copy) t masks end
+same-kept g h items copy t masks end e f kept = rw (e, f) kept

@@ -9,20 +9,24 @@ use Rattle.hb_rules.specs.declared.acts.Action.TheVariants as action
 use Rattle.hb_rules.specs.declared.acts.Clue.{Clue}
 use Rattle.hb_rules.specs.declared.acts.EndHow.{EndHow}
 use Rattle.hb_rules.specs.declared.setups.Setup.{Setup}
-use Rattle.hb_rules.specs.Cards.{same_identity, identity, has_number, in_range}
+use Rattle.hb_rules.specs.Cards.{number, same_identity, identity, has_number, in_range}
 use Rattle.hb_rules.specs.Setup.{card, deal_size}
 use Rattle.hb_rules.specs.Touch.{touches}
-use Rattle.hb_rules.specs.Hands.{removed, holder, is_at}
+use Rattle.hb_rules.specs.Hands.{removed, receiver, holder, hand, is_at}
 use Rattle.hb_rules.specs.Result.{height, raised, fits, lost, turns, tokens, strikes, called}
 use Rattle.hb_rules.specs.Legality.{Legal}
 use Rattle.hb_rules.specs.Marks.{meets, same}
 use Rattle.hb_rules.proofs.Hands.{holder-past}
-use Rattle.hb_rules.proofs.Undrawn.{holder-play, holder-discard}
+use Rattle.hb_rules.proofs.Undrawn.{holder-play, holder-discard, receiver-undrawn}
 use Rattle.hb_sets.specs.Sets.{bit}
 use Rattle.hb_turns.specs.declared.table.Table.{Table}
-use Rattle.hb_turns.specs.Kept.{IsFair, IsTable}
-use Rattle.hb_turns.specs.Steps.{IsCard, IsNarrowed, play_table, discard_table, clue_table, moved, stacked, lost_card, one_more, is_next}
+use Rattle.hb_turns.specs.GameInvariant.{IsFair, IsTable}
+use Rattle.hb_turns.specs.ClueMasks.{IsMask}
+use Rattle.hb_turns.specs.TableSteps.{IsCard, IsNarrowed, is_among, is_alike, play_table, discard_table, clue_table, moved, stacked, lost_card, one_more, is_next}
 use Rattle.hb_turns.proofs.Emptied.{emptied-clue, emptied-draw}
+use Rattle.hb_turns.proofs.Fair.{mask-card}
+use Rattle.hb_turns.proofs.HandBits.{hands-more}
+use Rattle.hb_turns.proofs.Narrow.{among-filter}
 
 -- one more card of an identity
 counts-more : (counts : List ℕ) (orders : List ℕ) (g : Setup) (order s r : ℕ) → length counts ≡ 30 → IsCard g order → s < 6 → r < 5
@@ -38,6 +42,18 @@ holders-more holders g past who order next count k long order_low count_low k_lo
 
 holders-long : (holders : List (Option ℕ)) (who order next count : ℕ) → length holders ≡ 60 → length (slice_set (if nat_lt next count then slice_set holders next (Some who) else holders) order None) ≡ 60
 holders-long holders who order next count long = grind (arith, length-set)
+
+-- who holds an order once the count of plays and discards is that of the acts
+holder-moved : (g : Setup) (past : List Act) (who order k count : ℕ) → count ≡ length (removed past)
+    → (if order == k then None else (if (if nat_lt (deal_size g + count) (length g.deck.items) then deal_size g + count == k else false) then Some who else holder g past k))
+    ≡ (if order == k then None else (if (if nat_lt (deal_size g + length (removed past)) (length g.deck.items) then deal_size g + length (removed past) == k else false) then Some who else holder g past k))
+holder-moved g past who order k count is =
+    ap (λ n. if order == k then None else (if (if nat_lt (deal_size g + n) (length g.deck.items) then deal_size g + n == k else false) then Some who else holder g past k)) is
+
+-- nobody holds the next order
+holder-next : (g : Setup) (past : List Act) (count : ℕ) → count ≡ length (removed past) → holder g past (deal_size g + count) ≡ None
+holder-next g past count is =
+    let r : receiver g past (deal_size g + count) ≡ None = receiver-undrawn g past (deal_size g + count) (omega arith) in rw r (grind arith)
 
 stacks-more : (stacks : List ℕ) (g : Setup) (past : List Act) (order s : ℕ) → length stacks ≡ 6 → in_range (card g order) ≡ true → fits g past order ≡ true
     → ((i : ℕ) → i < 6 → slice_index stacks i ≡ height g past i) → s < 6
@@ -59,23 +75,26 @@ next-fits g past t order is_card kept =
     ap (λ h. (card g order).rank == h + 1) (kept.stacks (card g order).suit suit_low)
 
 -- the table after a play that fits
-table-fits : (g : Setup) (past : List Act) (t : Table) (who order : ℕ) → IsFair g → Legal g past → called past ≡ None → IsCard g order → IsTable g past t → fits g past order ≡ true
+table-fits : (g : Setup) (past : List Act) (t : Table) (who order : ℕ) → IsFair g → Legal g past → called past ≡ None → IsCard g order → who < 6 → holder g past order ≡ Some who → IsTable g past t → fits g past order ≡ true
     → IsTable g (record { who = who; action = action.Play order } ∷ past) (moved g (stacked t (card g order)) who order)
-table-fits g past t who order fair legal uncalled is_card kept fit =
+table-fits g past t who order fair legal uncalled is_card seat held kept fit =
     let ok : in_range (card g order) ≡ true = is_card.id in
     let order_low : order < 60 = omega (arith, is_card.below, is_card.long) in
-    let e1 : t.removed ≡ length (removed past) = kept.removed in
-    let e2 : t.turns ≡ turns past = kept.turns in
-    let e3 : t.tokens ≡ tokens g past = kept.tokens in
+    let removed_is : t.removed ≡ length (removed past) = kept.removed in
+    let turns_is : t.turns ≡ turns past = kept.turns in
+    let tokens_is : t.tokens ≡ tokens g past = kept.tokens in
     record {
       many_holders = holders-long t.holders who order (deal_size g + t.removed) (length g.deck.items) kept.many_holders;
       many_stacks = rw length-set kept.many_stacks;
       many_lost = kept.many_lost;
       many_gone = rw length-set kept.many_gone;
       many_marks = kept.many_marks;
+      many_hands = rw length-set kept.many_hands;
       holders = λ k low. holders-more t.holders g past who order (deal_size g + t.removed) (length g.deck.items) k kept.many_holders order_low fair.long low (kept.holders k low)
-          ∙ (ap (λ n. if order == k then None else (if (if nat_lt (deal_size g + n) (length g.deck.items) then deal_size g + n == k else false) then Some who else holder g past k)) e1
-          ∙ sym (holder-play g past legal who order k));
+          ∙ holder-moved g past who order k t.removed kept.removed ∙ sym (holder-play g past legal who order k);
+      hands = λ s k low. hands-more t.hands g past who order (deal_size g + t.removed) s k (nat_lt (deal_size g + t.removed) (length g.deck.items)) kept.many_hands seat held
+          (λ draws. holder-next g past t.removed kept.removed) kept.hands low
+          ∙ ap (λ o. is_at o s) (holder-moved g past who order k t.removed kept.removed ∙ sym (holder-play g past legal who order k));
       stacks = λ s low. stacks-more t.stacks g past order s kept.many_stacks ok fit kept.stacks low;
       lost = λ s r s_low r_low. rw fit (kept.lost s r s_low r_low);
       gone = λ s r s_low r_low. counts-more t.gone (removed past) g order s r kept.many_gone is_card s_low r_low (kept.gone s r s_low r_low);
@@ -84,28 +103,31 @@ table-fits g past t who order fair legal uncalled is_card kept fit =
       turns = omega arith;
       tokens = grind arith;
       strikes = rw fit kept.strikes;
-      emptied = rw (e1, e2, kept.emptied) (sym (emptied-draw g past (turns past + 1) (length (removed (record { who = who; action = action.Play order } ∷ past))) (omega arith)));
+      emptied = rw (removed_is, turns_is, kept.emptied) (sym (emptied-draw g past (turns past + 1) (length (removed (record { who = who; action = action.Play order } ∷ past))) (omega arith)));
       called = kept.called ∙ uncalled;
     }
 
 -- the table after a play that does not fit
-table-misses : (g : Setup) (past : List Act) (t : Table) (who order : ℕ) → IsFair g → Legal g past → called past ≡ None → IsCard g order → IsTable g past t → fits g past order ≡ false
+table-misses : (g : Setup) (past : List Act) (t : Table) (who order : ℕ) → IsFair g → Legal g past → called past ≡ None → IsCard g order → who < 6 → holder g past order ≡ Some who → IsTable g past t → fits g past order ≡ false
     → IsTable g (record { who = who; action = action.Play order } ∷ past) (moved g (record (lost_card t (card g order)) { strikes = t.strikes + 1 }) who order)
-table-misses g past t who order fair legal uncalled is_card kept miss =
+table-misses g past t who order fair legal uncalled is_card seat held kept miss =
     let order_low : order < 60 = omega (arith, is_card.below, is_card.long) in
-    let e1 : t.removed ≡ length (removed past) = kept.removed in
-    let e2 : t.turns ≡ turns past = kept.turns in
-    let e3 : t.tokens ≡ tokens g past = kept.tokens in
-    let e4 : t.strikes ≡ strikes g past = kept.strikes in
+    let removed_is : t.removed ≡ length (removed past) = kept.removed in
+    let turns_is : t.turns ≡ turns past = kept.turns in
+    let tokens_is : t.tokens ≡ tokens g past = kept.tokens in
+    let strikes_is : t.strikes ≡ strikes g past = kept.strikes in
     record {
       many_holders = holders-long t.holders who order (deal_size g + t.removed) (length g.deck.items) kept.many_holders;
       many_stacks = kept.many_stacks;
       many_lost = rw length-set kept.many_lost;
       many_gone = rw length-set kept.many_gone;
       many_marks = kept.many_marks;
+      many_hands = rw length-set kept.many_hands;
       holders = λ k low. holders-more t.holders g past who order (deal_size g + t.removed) (length g.deck.items) k kept.many_holders order_low fair.long low (kept.holders k low)
-          ∙ (ap (λ n. if order == k then None else (if (if nat_lt (deal_size g + n) (length g.deck.items) then deal_size g + n == k else false) then Some who else holder g past k)) e1
-          ∙ sym (holder-play g past legal who order k));
+          ∙ holder-moved g past who order k t.removed kept.removed ∙ sym (holder-play g past legal who order k);
+      hands = λ s k low. hands-more t.hands g past who order (deal_size g + t.removed) s k (nat_lt (deal_size g + t.removed) (length g.deck.items)) kept.many_hands seat held
+          (λ draws. holder-next g past t.removed kept.removed) kept.hands low
+          ∙ ap (λ o. is_at o s) (holder-moved g past who order k t.removed kept.removed ∙ sym (holder-play g past legal who order k));
       stacks = λ s low. stacks-same (slice_index t.stacks s) g past order s miss (kept.stacks s low);
       lost = λ s r s_low r_low. rw miss (counts-more t.lost (lost g past) g order s r kept.many_lost is_card s_low r_low (kept.lost s r s_low r_low));
       gone = λ s r s_low r_low. counts-more t.gone (removed past) g order s r kept.many_gone is_card s_low r_low (kept.gone s r s_low r_low);
@@ -114,36 +136,39 @@ table-misses g past t who order fair legal uncalled is_card kept miss =
       turns = omega arith;
       tokens = rw miss kept.tokens;
       strikes = rw miss (omega arith);
-      emptied = rw (e1, e2, kept.emptied) (sym (emptied-draw g past (turns past + 1) (length (removed (record { who = who; action = action.Play order } ∷ past))) (omega arith)));
+      emptied = rw (removed_is, turns_is, kept.emptied) (sym (emptied-draw g past (turns past + 1) (length (removed (record { who = who; action = action.Play order } ∷ past))) (omega arith)));
       called = kept.called ∙ uncalled;
     }
 
 -- the table after a play
-pub table-play : (g : Setup) (past : List Act) (t : Table) (who order : ℕ) → IsFair g → Legal g past → called past ≡ None → IsCard g order → IsTable g past t
+pub table-play : (g : Setup) (past : List Act) (t : Table) (who order : ℕ) → IsFair g → Legal g past → called past ≡ None → IsCard g order → who < 6 → holder g past order ≡ Some who → IsTable g past t
     → IsTable g (record { who = who; action = action.Play order } ∷ past) (play_table g t who order)
-table-play g past t who order fair legal uncalled is_card kept = pick (fits g past order) refl
+table-play g past t who order fair legal uncalled is_card seat held kept = pick (fits g past order) refl
   where
     pick : (b : Bool) → fits g past order ≡ b → IsTable g (record { who = who; action = action.Play order } ∷ past) (play_table g t who order)
-    pick true fit = rw (next-fits g past t order is_card kept ∙ fit) (table-fits g past t who order fair legal uncalled is_card kept fit)
-    pick false miss = rw (next-fits g past t order is_card kept ∙ miss) (table-misses g past t who order fair legal uncalled is_card kept miss)
+    pick true fit = rw (next-fits g past t order is_card kept ∙ fit) (table-fits g past t who order fair legal uncalled is_card seat held kept fit)
+    pick false miss = rw (next-fits g past t order is_card kept ∙ miss) (table-misses g past t who order fair legal uncalled is_card seat held kept miss)
 
 -- the table after a discard
-pub table-discard : (g : Setup) (past : List Act) (t : Table) (who order : ℕ) → IsFair g → Legal g past → called past ≡ None → IsCard g order → IsTable g past t
+pub table-discard : (g : Setup) (past : List Act) (t : Table) (who order : ℕ) → IsFair g → Legal g past → called past ≡ None → IsCard g order → who < 6 → holder g past order ≡ Some who → IsTable g past t
     → IsTable g (record { who = who; action = action.Discard order } ∷ past) (discard_table g t who order)
-table-discard g past t who order fair legal uncalled is_card kept =
+table-discard g past t who order fair legal uncalled is_card seat held kept =
     let order_low : order < 60 = omega (arith, is_card.below, is_card.long) in
-    let e1 : t.removed ≡ length (removed past) = kept.removed in
-    let e2 : t.turns ≡ turns past = kept.turns in
-    let e3 : t.tokens ≡ tokens g past = kept.tokens in
+    let removed_is : t.removed ≡ length (removed past) = kept.removed in
+    let turns_is : t.turns ≡ turns past = kept.turns in
+    let tokens_is : t.tokens ≡ tokens g past = kept.tokens in
     record {
       many_holders = holders-long t.holders who order (deal_size g + t.removed) (length g.deck.items) kept.many_holders;
       many_stacks = kept.many_stacks;
       many_lost = rw length-set kept.many_lost;
       many_gone = rw length-set kept.many_gone;
       many_marks = kept.many_marks;
+      many_hands = rw length-set kept.many_hands;
       holders = λ k low. holders-more t.holders g past who order (deal_size g + t.removed) (length g.deck.items) k kept.many_holders order_low fair.long low (kept.holders k low)
-          ∙ (ap (λ n. if order == k then None else (if (if nat_lt (deal_size g + n) (length g.deck.items) then deal_size g + n == k else false) then Some who else holder g past k)) e1
-          ∙ sym (holder-discard g past legal who order k));
+          ∙ holder-moved g past who order k t.removed kept.removed ∙ sym (holder-discard g past legal who order k);
+      hands = λ s k low. hands-more t.hands g past who order (deal_size g + t.removed) s k (nat_lt (deal_size g + t.removed) (length g.deck.items)) kept.many_hands seat held
+          (λ draws. holder-next g past t.removed kept.removed) kept.hands low
+          ∙ ap (λ o. is_at o s) (holder-moved g past who order k t.removed kept.removed ∙ sym (holder-discard g past legal who order k));
       stacks = kept.stacks;
       lost = λ s r s_low r_low. counts-more t.lost (lost g past) g order s r kept.many_lost is_card s_low r_low (kept.lost s r s_low r_low);
       gone = λ s r s_low r_low. counts-more t.gone (removed past) g order s r kept.many_gone is_card s_low r_low (kept.gone s r s_low r_low);
@@ -152,38 +177,54 @@ table-discard g past t who order fair legal uncalled is_card kept =
       turns = omega arith;
       tokens = omega arith;
       strikes = kept.strikes;
-      emptied = rw (e1, e2, kept.emptied) (sym (emptied-draw g past (turns past + 1) (length (removed (record { who = who; action = action.Discard order } ∷ past))) (omega arith)));
+      emptied = rw (removed_is, turns_is, kept.emptied) (sym (emptied-draw g past (turns past + 1) (length (removed (record { who = who; action = action.Discard order } ∷ past))) (omega arith)));
       called = kept.called ∙ uncalled;
     }
 
 -- one word narrowed by a clue is that of the longer history
-marked-clue : (old new : Bool) (low at has fits before : Bool) → old ≡ (has && before) → new ≡ (old && (if low && at then has && fits else true)) → (low ≡ false → at ≡ false)
+marked-clue : (old new : Bool) (low at among alike has fits before : Bool) → old ≡ (has && before) → new ≡ (old && (if among then alike else true))
+    → among ≡ (low && at) → (low ≡ true → alike ≡ (has && fits)) → (low ≡ false → at ≡ false)
     → new ≡ (has && ((if at then fits else true) && before))
-marked-clue old new low at has fits before e f h = grind arith
+marked-clue old new true at among alike has fits before e f h i j = grind (arith, i)
+marked-clue old new false at among alike has fits before e f h i j = grind (arith, j)
+
+-- a set that has what both the variant and the clue have
+alike-bools : (all own here has fits touched : Bool) → all ≡ has → own ≡ touched → here ≡ (has && fits) → (all && same own here) ≡ (has && same touched fits)
+alike-bools all own here has fits touched e f h = grind arith
+
+-- the identities that the clue tells alike with a card, by the sets
+alike-is : (g : Setup) (clue : Clue) (all touched k n : ℕ) → IsFair g → ((n : ℕ) → (bit all n == 1) ≡ has_number g.variant n) → IsMask g.variant clue touched → k < length g.deck.items
+    → is_alike g all touched k n ≡ (has_number g.variant n && same (touches g.variant clue (card g k)) (touches g.variant clue (identity n)))
+alike-is g clue all touched k n fair every mask low =
+    alike-bools (bit all n == 1) (bit touched (number (card g k)) == 1) (bit touched n == 1) (has_number g.variant n) (touches g.variant clue (identity n)) (touches g.variant clue (card g k))
+    (every n) (mask-card g clue touched k fair mask low) (mask n)
 
 -- the table after a clue
-pub table-clue : (g : Setup) (past : List Act) (t : Table) (who to : ℕ) (clue : Clue) (marks : List ℕ) → IsFair g → called past ≡ None → IsTable g past t
-    → IsNarrowed g t.holders to clue t.marks marks (length g.deck.items)
+pub table-clue : (g : Setup) (past : List Act) (t : Table) (who to : ℕ) (clue : Clue) (marks held : List ℕ) (all touched : ℕ) → IsFair g → called past ≡ None → IsTable g past t
+    → held ≡ hand g past to → ((n : ℕ) → (bit all n == 1) ≡ has_number g.variant n) → IsMask g.variant clue touched → IsNarrowed g held all touched t.marks marks
     → IsTable g (record { who = who; action = action.Clue to clue } ∷ past) (record (clue_table t) { marks = marks })
-table-clue g past t who to clue marks fair uncalled kept narrowed =
-    let e2 : t.turns ≡ turns past = kept.turns in
-    let e3 : t.tokens ≡ tokens g past = kept.tokens in
+table-clue g past t who to clue marks held all touched fair uncalled kept here every mask narrowed =
+    let turns_is : t.turns ≡ turns past = kept.turns in
+    let tokens_is : t.tokens ≡ tokens g past = kept.tokens in
+    let among : (k : ℕ) → is_among held k ≡ (nat_lt k (length g.deck.items) && is_at (holder g past k) to) =
+    λ k. rw here (among-filter (λ order. is_at (holder g past order) to) (length g.deck.items) k) in
     record {
       many_holders = kept.many_holders;
+      many_hands = kept.many_hands;
       many_stacks = kept.many_stacks;
       many_lost = kept.many_lost;
       many_gone = kept.many_gone;
       many_marks = narrowed.long ∙ kept.many_marks;
       holders = kept.holders;
+      hands = kept.hands;
       stacks = kept.stacks;
       lost = kept.lost;
       gone = kept.gone;
       marks = λ k n low.
-          let here : slice_index_or t.holders k None ≡ holder g past k = kept.holders k low in
           let nobody : length g.deck.items ≤ k → holder g past k ≡ None = holder-past g past k fair.dealt in
-          let b : (bit (slice_index marks k) n == 1) ≡ ((bit (slice_index t.marks k) n == 1) && (if nat_lt k (length g.deck.items) && is_at (holder g past k) to then has_number g.variant n && same (touches g.variant clue (card g k)) (touches g.variant clue (identity n)) else true)) = rw here at (narrowed.bits k n) in
-          marked-clue (bit (slice_index t.marks k) n == 1) (bit (slice_index marks k) n == 1) (nat_lt k (length g.deck.items)) (is_at (holder g past k) to) (has_number g.variant n) (same (touches g.variant clue (card g k)) (touches g.variant clue (identity n))) (meets g past k (identity n))
-          (kept.marks k n low) b (λ far. grind (arith, nobody));
+          marked-clue (bit (slice_index t.marks k) n == 1) (bit (slice_index marks k) n == 1) (nat_lt k (length g.deck.items)) (is_at (holder g past k) to) (is_among held k) (is_alike g all touched k n)
+          (has_number g.variant n) (same (touches g.variant clue (card g k)) (touches g.variant clue (identity n))) (meets g past k (identity n))
+          (kept.marks k n low) (narrowed.bits k n) (among k) (λ near. alike-is g clue all touched k n fair every mask (grind (arith, near))) (λ far. grind (arith, nobody));
       removed = kept.removed;
       turns = omega arith;
       tokens = omega arith;
@@ -197,11 +238,13 @@ pub table-end : (g : Setup) (past : List Act) (t : Table) (who : ℕ) (how : End
     → IsTable g (record { who = who; action = action.End how } ∷ past) (record t { called = Some how })
 table-end g past t who how kept = record {
   many_holders = kept.many_holders;
+  many_hands = kept.many_hands;
   many_stacks = kept.many_stacks;
   many_lost = kept.many_lost;
   many_gone = kept.many_gone;
   many_marks = kept.many_marks;
   holders = kept.holders;
+  hands = kept.hands;
   stacks = kept.stacks;
   lost = kept.lost;
   gone = kept.gone;

@@ -1,12 +1,11 @@
 -- What callers see of a game, and its fields: a fact about the one is a fact about the other.
-use Rattle.std.proofs.Common.{◌≡◌, ℕ, ◌<◌, List, length, None, Bool, true, subst, sym, arith, reverse, ◌+◌, ◌-◌, [], ◌∷◌, zero, suc, drop, ap, ◌∙◌}
-use Rattle.std.specs.Prelude.{is_some, filter, slice_index, slice_index_or, All}
+use Rattle.std.proofs.Common.{◌↔◌, refl, false, ◌≡◌, ℕ, ◌<◌, List, length, None, Bool, true, subst, sym, arith, reverse, ◌+◌, ◌-◌, [], ◌∷◌, zero, suc, drop, ap, ◌∙◌}
+use Rattle.std.specs.Prelude.{is_some, filter, slice_index, slice_index_or, All, ◌==◌}
 use Rattle.std.proofs.Math.Seq.{drop-cons}
 use Rattle.std.specs.List.{range_with_len}
 use Rattle.std.proofs.lemmas.List.Elements.{All-filter, All-get_or, All-from_get_or}
 use Rattle.std.proofs.lemmas.List.FromFn.{get_or-range_with_len, length-range_with_len}
 use Rattle.hb_rules.specs.declared.acts.Clue.{Clue}
-use Rattle.hb_rules.specs.declared.suits.Identity.{Identity}
 use Rattle.hb_rules.specs.Setup.{card}
 use Rattle.hb_rules.specs.Touch.{touches}
 use Rattle.hb_rules.specs.Hands.{holder, hand, is_at}
@@ -17,8 +16,12 @@ use Rattle.hb_rules.specs.declared.acts.Action.{Action}
 use Rattle.hb_rules.specs.declared.setups.Setup.{Setup}
 use Rattle.hb_rules.specs.Setup.{Position}
 use Rattle.hb_rules.specs.Legality.{rule, Legal}
-use Rattle.hb_turns.specs.Kept.{IsFair}
-use Rattle.hb_turns.proofs.Fair.{held-below}
+use Rattle.hb_turns.specs.GameInvariant.{IsFair}
+use Rattle.hb_rules.specs.Cards.{number}
+use Rattle.hb_sets.specs.Sets.{bit, Has}
+use Rattle.hb_sets.proofs.Bits.{bit-lt}
+use Rattle.hb_turns.specs.ClueMasks.{IsMask}
+use Rattle.hb_turns.proofs.Fair.{held-below, mask-card}
 
 -- a setup and the acts after it, as callers see them
 abbrev pub position : Setup → List Act → Position
@@ -59,13 +62,13 @@ next-inside g items i act low here legal =
     let m : ℕ = length items - (i + 1) in
     let m-low : length items - (i + 1) < length (reverse items) = omega arith in
     let back : length items - 1 - (length items - (i + 1)) ≡ i = omega arith in
-    let e1 : length (reverse items) - i ≡ suc (length items - (i + 1)) = omega arith in
-    let e2 : length (reverse items) - (i + 1) ≡ length items - (i + 1) = omega arith in
+    let rest : length (reverse items) - i ≡ suc (length items - (i + 1)) = omega arith in
+    let rest_after : length (reverse items) - (i + 1) ≡ length items - (i + 1) = omega arith in
     let at : slice_index_or (reverse items) (length items - (i + 1)) act ≡ slice_index_or items (length items - 1 - (length items - (i + 1))) act = get_or-reverse items (length items - (i + 1)) act (omega arith) in
     let at' : slice_index_or (reverse items) (length items - (i + 1)) act ≡ act = at ∙ (ap (λ k. slice_index_or items k act) back ∙ sym here) in
     let n : (rule g (drop (suc (length items - (i + 1))) (reverse items)) (slice_index_or (reverse items) (length items - (i + 1)) act) ≡ None) × (drop (length items - (i + 1)) (reverse items) ≡ slice_index_or (reverse items) (length items - (i + 1)) act ∷ drop (suc (length items - (i + 1))) (reverse items)) =
     next-at g (reverse items) (length items - (i + 1)) act m-low legal in
-    rw (e1, e2) (rw at' at n.0, sym (rw at' at n.1))
+    rw (rest, rest_after) (rw at' at n.0, sym (rw at' at n.1))
 
 -- the act at a place, as callers see it
 pub act-inside : (g : Setup) (items : List Act) (p : Position) (i : ℕ) (d : Act) → position g (reverse items) ≡ p → i < length p.past → Legal g (reverse items)
@@ -87,15 +90,30 @@ range-low : (n : ℕ) → All (λ k. k < n) (range_with_len 0 n)
 range-low n = All-from_get_or (λ k. k < n) (range_with_len 0 n) 0 (λ i low. let below : i < n = omega (arith, low, length-range_with_len 0 n) in
     rw (get_or-range_with_len 0 n i 0 below) (omega (arith, below)))
 
+-- what callers see of a hand, and of the set that a clue touches, is so of the fields
+pub hand-inside : (g : Setup) (past : List Act) (p : Position) (seat : ℕ) (held : List ℕ) → position g past ≡ p → held ≡ hand p.setup p.past seat → held ≡ hand g past seat
+hand-inside g past p seat held e is = let P : Position → Type 0 = λ q. held ≡ hand q.setup q.past seat in subst P (sym e) is
+
+-- the set that a clue touches, by the fields
+pub mask-inside : (g : Setup) (past : List Act) (p : Position) (clue : Clue) (set : ℕ) → position g past ≡ p → IsMask p.setup.variant clue set → IsMask g.variant clue set
+mask-inside g past p clue set e is = let P : Position → Type 0 = λ q. IsMask q.setup.variant clue set in subst P (sym e) is
+
+-- the orders of a hand are those of cards of the deck
 pub in-hand : (g : Setup) (past : List Act) (p : Position) (seat : ℕ) (held : List ℕ) (i : ℕ) → position g past ≡ p → held ≡ hand p.setup p.past seat → i < length held → slice_index held i < length g.deck.items
 in-hand g past p seat held i e is low =
-    let here : held ≡ hand g past seat = let P : Position → Type 0 = λ q. held ≡ hand q.setup q.past seat in subst P (sym e) is in
+    let here : held ≡ hand g past seat = hand-inside g past p seat held e is in
     let all : All (λ k. k < length g.deck.items) held = rw here (All-filter (λ order. is_at (holder g past order) seat) (λ k. k < length g.deck.items) (range_with_len 0 (length g.deck.items)) (range-low (length g.deck.items))) in
     All-get_or (λ k. k < length g.deck.items) held i 0 low all
 
+-- a test that says of a bit whether it is set
+pub iff-test : (b : Bool) (x : ℕ) → ((b ≡ true) ↔ (x ≡ 1)) → x < 2 → (x == 1) ≡ b
+iff-test true x h low = grind (arith, h.0 refl)
+iff-test false x h low = grind (arith, h.1)
+
 -- whether a clue touches a card, as callers see it
-pub touches-inside : (g : Setup) (past : List Act) (p : Position) (clue : Clue) (deck : List Identity) (k : ℕ) (b : Bool) → position g past ≡ p → deck ≡ g.deck.items
-    → b ≡ touches g.variant clue (slice_index_or deck k (record { suit = 0; rank = 0 })) → touches p.setup.variant clue (card p.setup k) ≡ b
-touches-inside g past p clue deck k b e cards is =
+pub touches-inside : (g : Setup) (past : List Act) (p : Position) (clue : Clue) (mask k : ℕ) (b : Bool) → position g past ≡ p → IsFair g → IsMask p.setup.variant clue mask
+    → k < length g.deck.items → ((b ≡ true) ↔ Has mask (number (card g k))) → touches p.setup.variant clue (card p.setup k) ≡ b
+touches-inside g past p clue mask k b e fair is low test =
+    let M : Position → Type 0 = λ q. IsMask q.setup.variant clue mask in
     let P : Position → Type 0 = λ q. touches q.setup.variant clue (card q.setup k) ≡ b in
-    subst P e (sym (rw cards at is))
+    subst P e (sym (mask-card g clue mask k fair (subst M (sym e) is) low) ∙ iff-test b (bit mask (number (card g k))) test (bit-lt mask (number (card g k))))

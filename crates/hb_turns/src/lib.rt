@@ -1,20 +1,33 @@
-//! The turn machine of Hanabi: a [`Game`] is a setup and the acts so far, and always a legal history.
+//! The turn machine of Hanabi: a [`Game`] is a setup and the acts so far, and always a legal
+//! history.
 //!
-//! Contracts see a game as its setup and its acts, the newest first, and say of each call which definition of
-//! `hb_rules` it computes. [`Game::start`] answers a game exactly where the number of players, the options and the deck
-//! allow one, and else the first condition that fails. [`Game::act`] answers the first rule that the act breaks and
-//! changes nothing, or takes the act and tells the order that was drawn and whether the game has ended. Each reader
-//! answers its definition's value after the acts so far. So no state is promised beside the history: that the counts
-//! which a game keeps are those of its acts is the invariant of its type.
+//! Contracts see a game as its setup and its acts, the newest first, and say of each call which
+//! definition of `hb_rules` it computes. [`Game::start`] answers a game exactly if the number of
+//! players, the options and the deck allow one, and else the first condition that fails.
+//! [`Game::act`] answers the first rule that the act breaks and changes nothing, or takes the act
+//! and tells the order that was drawn and whether the game has ended. Each reader answers its
+//! definition's value after the acts so far. So no state is promised beside the history: that what
+//! a game keeps is that of its acts is the invariant of its type.
 //!
 //! No call takes memory. A game has room for every act that can still be legal.
+//!
+//! ```
+//! fn first_card(variant: &Variant, deck: &[Identity]) -> Option<u8> {
+//!     let mut game = Game::start(variant, &Options::default(), 2, deck).ok()?;
+//!     game.act(0, Action::Clue { to: 1, clue: Clue::Rank(3) }).ok()?;
+//!     game.act(1, Action::Clue { to: 0, clue: Clue::Rank(1) }).ok()?;
+//!     game.act(0, Action::Play { order: 0 }).ok()?;
+//!     Some(game.score())
+//! }
+//! ```
 #![tactic(auto)]
 
 mod deals;
 mod game;
+mod masks;
 mod table;
 
-pub use game::{Game, Outcome};
+pub use game::{Game, Outcome, are_options, are_players};
 pub use hb_rules::{
     Act, Action, Clue, EndHow, Identity, Kind, Options, Rule, Setup, Special, StartError, Suit,
     Variant,

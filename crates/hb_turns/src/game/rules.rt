@@ -2,16 +2,18 @@
 
 ghost use Rattle.std.specs.Prelude.{◌≡◌, IsTrue};
 ghost use Rattle.hb_rules.specs.Touch.{offers};
-ghost use Rattle.hb_rules.specs.Legality.{rule as rule_of, touched, is_empty};
+ghost use Rattle.hb_rules.specs.Legality.{is_empty};
+ghost use Rattle.hb_rules.specs.Setup.{by};
+ghost use Rattle.hb_rules.specs.Positions.{rule, touched};
 
 use crate::Game;
 use hb_rules::{Action, Clue, EndHow, FULL_TOKENS, Rule};
 use hb_touch::offers;
 
 impl Game {
-    /// The first rule that the act breaks, in the order of `Rule`; none where it may come next.
+    /// The first rule that the act breaks, in the order of `Rule`; none if it may come next.
     pub fn broken(&self, who: u8, action: Action) -> Option<Rule>
-        ensures { result ≡ rule_of self.now.setup self.now.past (record { who = who; action = action }) }
+        ensures { result ≡ rule self.now (by who action) }
     {
         match action {
             Action::Play { order } => self.broken_by_play(who, order),
@@ -23,8 +25,7 @@ impl Game {
 
     #[tactic(auto, unfolding(hb_rules::specs::Legality::rule))]
     fn broken_by_play(&self, who: u8, order: u8) -> Option<Rule>
-        ensures { result
-            ≡ rule_of self.now.setup self.now.past (record { who = who; action = Action.Play order }) }
+        ensures { result ≡ rule self.now (by who (Action.Play order)) }
     {
         if self.ended().is_some() {
             Some(Rule::GameOver)
@@ -39,8 +40,7 @@ impl Game {
 
     #[tactic(auto, unfolding(hb_rules::specs::Legality::rule))]
     fn broken_by_discard(&self, who: u8, order: u8) -> Option<Rule>
-        ensures { result
-            ≡ rule_of self.now.setup self.now.past (record { who = who; action = Action.Discard order }) }
+        ensures { result ≡ rule self.now (by who (Action.Discard order)) }
     {
         if self.ended().is_some() {
             Some(Rule::GameOver)
@@ -57,8 +57,7 @@ impl Game {
 
     #[tactic(auto, unfolding(hb_rules::specs::Legality::rule))]
     fn broken_by_clue(&self, who: u8, to: u8, clue: Clue) -> Option<Rule>
-        ensures { result
-            ≡ rule_of self.now.setup self.now.past (record { who = who; action = Action.Clue to clue }) }
+        ensures { result ≡ rule self.now (by who (Action.Clue to clue)) }
     {
         if self.ended().is_some() {
             Some(Rule::GameOver)
@@ -81,8 +80,7 @@ impl Game {
 
     #[tactic(auto, unfolding(hb_rules::specs::Legality::rule))]
     fn broken_by_end(&self, who: u8, how: EndHow) -> Option<Rule>
-        ensures { result
-            ≡ rule_of self.now.setup self.now.past (record { who = who; action = Action.End how }) }
+        ensures { result ≡ rule self.now (by who (Action.End how)) }
     {
         if self.ended().is_some() {
             Some(Rule::GameOver)
@@ -96,10 +94,10 @@ impl Game {
     }
 
     /// The clue touches no card of the hand.
-    #[tactic(auto, using(crate::proofs::Bits::bits_none))]
+    #[tactic(auto, using(crate::proofs::OrderBits::bits_none))]
     fn touches_none(&self, to: u8, clue: Clue) -> bool
         requires { IsTrue (offers self.now.setup.variant clue) }
-        ensures { result ≡ is_empty (touched self.now.setup self.now.past to clue) }
+        ensures { result ≡ is_empty (touched self.now to clue) }
     {
         self.touched(to, clue) == 0
     }

@@ -1,46 +1,39 @@
 //! The identities that the clues allow each card.
 
-ghost use Rattle.std.specs.Prelude.{◌≡◌, ℕ, ◌<◌, ◌≤◌, ◌==◌, ◌&&◌, length, IsTrue};
-ghost use Rattle.hb_rules.specs.Cards.{identity, has_number};
-ghost use Rattle.hb_rules.specs.Setup.{card};
-ghost use Rattle.hb_rules.specs.Touch.{offers, touches as touches_of};
+ghost use Rattle.std.specs.Prelude.{◌≡◌, ℕ, ◌<◌, ◌≤◌, ◌==◌, ◌&&◌, All};
 ghost use Rattle.hb_rules.specs.Marks.{same};
 ghost use Rattle.hb_sets.specs.Sets.{bit};
-ghost use Rattle.hb_turns.specs.Steps.{IsNarrowed};
+ghost use Rattle.hb_turns.specs.TableSteps.{IsCard, IsNarrowed};
 
-use hb_rules::{Clue, Identity, MOST_CARDS, Setup, Variant};
-use hb_sets::meet;
-use hb_touch::{mask, touches};
+use hb_rules::{MOST_CARDS, Setup};
+use hb_sets::{has, meet};
+use hb_suits::number;
 
-/// The marks of a card of the identity `id` after a clue to its holder: of those before, the identities that the clue
-/// touches where it touches `id`, and else the identities that it does not touch.
-fn narrowed(variant: &Variant, mark: u64, clue: Clue, id: Identity) -> u64
-    requires offered { IsTrue (offers variant.now clue) }
-    requires ranked { 1 ≤ id.rank }
+/// The marks of a card of the identity with a number, after a clue to its holder that touches these
+/// of all identities: of those before, the touched ones if the card is touched, and else the
+/// others.
+fn narrowed(mark: u64, all: u64, touched: u64, number: u8) -> u64
+    requires number { number < 64 }
+    requires within { (n : ℕ) → bit touched n ≤ bit all n }
     ensures { (n : ℕ) → (bit result n == 1) ≡ ((bit mark n == 1)
-        && (has_number variant.now n && same (touches_of variant.now clue id) (touches_of variant.now clue (identity n)))) }
+        && ((bit all n == 1) && same (bit touched number == 1) (bit touched n == 1))) }
 {
-    let touched = touches(variant, clue, id);
-    let fitting = mask(variant, clue, touched);
-    meet(mark, fitting)
+    let alike = if has(touched, number) {
+        touched
+    } else {
+        all ^ touched
+    };
+    meet(mark, alike)
 }
 
 /// A clue to a seat narrows the marks of each card in its hand.
-pub fn narrow(
-    marks: &mut [u64; MOST_CARDS],
-    holders: &[Option<u8>; MOST_CARDS],
-    setup: &Setup,
-    to: u8,
-    clue: Clue,
-)
-    requires offered { IsTrue (offers setup.now.variant clue) }
-    requires short { length setup.now.deck.items ≤ MOST_CARDS }
-    requires ranked { (k : ℕ) → k < length setup.now.deck.items → 1 ≤ (card setup.now k).rank }
-    ensures { IsNarrowed setup.now holders.now to clue marks.old marks.new (length setup.now.deck.items) }
+pub fn narrow(marks: &mut [u64; MOST_CARDS], setup: &Setup, hand: &[u8], all: u64, touched: u64)
+    requires cards { All (IsCard setup.now) hand.now }
+    requires within { (n : ℕ) → bit touched n ≤ bit all n }
+    ensures { IsNarrowed setup.now hand.now all touched marks.old marks.new }
 {
-    for k in 0..setup.deck.len() {
-        if holders[k] == Some(to) {
-            marks[k] = narrowed(&setup.variant, marks[k], clue, setup.deck[k]);
-        }
+    for order in hand {
+        let place = usize::from(*order);
+        marks[place] = narrowed(marks[place], all, touched, number(setup.deck[place]));
     }
 }

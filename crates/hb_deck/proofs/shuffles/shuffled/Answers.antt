@@ -1,4 +1,4 @@
-use Rattle.hb_deck.proofs.Same.{IsDeck-shuffled}
+use Rattle.hb_deck.proofs.SameDeck.{IsDeck-shuffled}
 use Rattle.hb_deck.proofs.shuffles.shuffled.Goals as goal
 
 pub returns-clause-full : goal.returns-clause-full

@@ -4,7 +4,7 @@ use Rattle.std.proofs.lemmas.Iterator.Splits.{YieldsList-from_str_split}
 use Rattle.std.proofs.lemmas.Iterator.Consumers.{YieldsList-turn, YieldsList-end}
 use Rattle.std.proofs.Math.ListN.{length-set}
 use Rattle.hb_rules.specs.declared.suits.Suit.{Suit}
-use Rattle.hb_suits.specs.Names.{are_suits, pieces}
+use Rattle.hb_suits.specs.VariantNames.{are_suits, pieces}
 use Rattle.hb_suits.proofs.Spellings.{spelled-unnamed, spelled-long, spelled-named, are_suits-push, named-push}
 use Rattle.hb_suits.proofs.names.spelled.Goals as goal
 

@@ -1,6 +1,6 @@
 use Rattle.std.proofs.Common.{◌≡◌, ◌≤◌, true, take, length}
 use Rattle.std.specs.Prelude.{filter_map}
-use Rattle.hb_suits.specs.Names.{suit_named, are_suits}
+use Rattle.hb_suits.specs.VariantNames.{suit_named, are_suits}
 use Rattle.hb_suits.proofs.Spellings.{texts}
 use Rattle.hb_suits.proofs.names.spelled.Given as goal
 

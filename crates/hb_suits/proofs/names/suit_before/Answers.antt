@@ -1,6 +1,6 @@
 use Rattle.std.proofs.Common.{◌≡◌, ◌++◌, ap, sym, ◌∙◌}
 use Rattle.std.specs.Str.{bytes_eq}
-use Rattle.hb_suits.specs.Names.{suit_name}
+use Rattle.hb_suits.specs.VariantNames.{suit_name}
 use Rattle.hb_suits.proofs.Finds.{find-none, find-same, bytes_eq-append, bytes_eq-other}
 use Rattle.hb_suits.proofs.names.suit_before.Goals as goal
 

@@ -7,15 +7,17 @@ use Rattle.hb_turns.proofs.table.Table.start.Goals as goal
 pub returns : goal.returns
 returns c = record {
   many_holders = c.dealt.ensures.many;
+  many_hands = c.dealt_hands.ensures.many;
   many_stacks = refl;
   many_lost = refl;
   many_gone = refl;
   many_marks = refl;
   holders = c.dealt.ensures.all;
+  hands = c.dealt_hands.ensures.all;
   stacks = λ s low. zeros 6 s;
   lost = λ s r s_low r_low. zeros 30 (s * 5 + r);
   gone = λ s r s_low r_low. zeros 30 (s * 5 + r);
-  marks = all-marked c.identities-all.result (has_number c.args.setup.now.variant) c.identities-all.ensures;
+  marks = all-marked c.args.masks.now.all (has_number c.args.setup.now.variant) c.requires.masks.all;
   removed = refl;
   turns = refl;
   tokens = refl;

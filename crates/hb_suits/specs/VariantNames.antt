@@ -1,4 +1,5 @@
--- The names of variants: 36 that are listed, and those that are spelled by their suits. Both are this project's own.
+-- The names of variants: 36 that are listed, and those that are spelled by their suits. Both are
+-- this project's own.
 use Rattle.std.specs.Prelude.{◌≡◌, ℕ, Bool, false, List, [], ◌∷◌, ◌++◌, ◌==◌, Option, Some, None, codes, map, take, drop, find, filter_map, is_some, option_and_then, if◌then◌else◌}
 use Rattle.std.specs.List.{list_all, list_any, slice_split, join_with_byte}
 use Rattle.std.specs.Str.{bytes_eq}
@@ -34,7 +35,9 @@ plain_suits = suit.Red ∷ suit.Yellow ∷ suit.Green ∷ suit.Blue ∷ suit.Pur
 
 -- the suits that stand behind four or five plain ones in a listed variant
 abbrev pub last_suits : List Suit
-last_suits = suit.Rainbow ∷ suit.Pink ∷ suit.White ∷ suit.Brown ∷ suit.Black ∷ suit.Omni ∷ suit.Null ∷ suit.MuddyRainbow ∷ suit.LightPink ∷ suit.Prism ∷ []
+last_suits =
+    suit.Rainbow ∷ suit.Pink ∷ suit.White ∷ suit.Brown ∷ suit.Black
+    ∷ suit.Omni ∷ suit.Null ∷ suit.MuddyRainbow ∷ suit.LightPink ∷ suit.Prism ∷ []
 
 -- the suits whose kind a special rank takes in a listed variant
 abbrev pub special_suits : List Suit
@@ -56,15 +59,25 @@ plain name count = record { name = name; suits = take count plain_suits; special
 
 -- plain suits and another one behind them
 abbrev pub with_last : ℕ → List ℕ → Suit → Entry
-with_last count ending s = record { name = suit_name s ++ ending; suits = take count plain_suits ++ s ∷ []; special = None }
+with_last count ending s = record {
+  name = suit_name s ++ ending;
+  suits = take count plain_suits ++ s ∷ [];
+  special = None;
+}
 
 -- five plain suits and a special rank of a suit's kind
 abbrev pub with_special : ℕ → List ℕ → Suit → Entry
-with_special rank ending s = record { name = suit_name s ++ ending; suits = take 5 plain_suits; special = Some (record { rank = rank; kind = kind_of s }) }
+with_special rank ending s = record {
+  name = suit_name s ++ ending;
+  suits = take 5 plain_suits;
+  special = Some (record { rank = rank; kind = kind_of s });
+}
 
 -- the listed names of plain suits alone
 abbrev pub plain_table : List Entry
-plain_table = plain (codes "3 Suits") 3 ∷ plain (codes "4 Suits") 4 ∷ plain (codes "No Variant") 5 ∷ plain (codes "6 Suits") 6 ∷ []
+plain_table =
+    plain (codes "3 Suits") 3 ∷ plain (codes "4 Suits") 4 ∷ plain (codes "No Variant") 5
+    ∷ plain (codes "6 Suits") 6 ∷ []
 
 -- the listed names
 unfoldable pub table : List Entry
@@ -80,7 +93,8 @@ is_listed name = list_any (λ entry. bytes_eq entry.name name) table
 
 -- the variant of a listed name
 unfoldable pub listed : List ℕ → Option Variant
-listed name = option_and_then (λ entry. variant_with entry.suits entry.special) (find (λ entry. bytes_eq entry.name name) table)
+listed name = option_and_then (λ entry. variant_with entry.suits entry.special)
+    (find (λ entry. bytes_eq entry.name name) table)
 
 -- the codes of `=` and `+`
 abbrev pub equals : ℕ
@@ -111,7 +125,9 @@ are_suits parts = list_all (λ part. is_some (suit_named part)) parts
 
 -- the variant of the suits that a text names, joined by `+`
 unfoldable pub spelled : List ℕ → Option Variant
-spelled text = if are_suits (pieces text) then variant_with (filter_map suit_named (pieces text)) None else None
+spelled text =
+    if are_suits (pieces text)
+    then variant_with (filter_map suit_named (pieces text)) None else None
 
 -- the name begins with `=`
 abbrev pub is_spelling : List ℕ → Bool

@@ -11,7 +11,7 @@ pub record Walk : Type 0 where
 
 -- the game that is shown and the turn are what the steps came to
 pub record IsKept (whole shown : Position) (turn : ℕ) (steps : List Step) : Type 0 where
-  pub stands : turn ≡ turn_of whole.past steps
+  pub stands : turn ≡ turn_of whole steps
   pub within : turn ≤ length whole.past
-  pub shows : shown ≡ record { setup = whole.setup; past = reviewed whole.setup whole.past steps }
+  pub shows : shown ≡ reviewed whole steps
   pub told : AreTold steps

@@ -21,6 +21,7 @@ pub bits-passed : (p : ℕ → Bool) (xs : List ℕ) (i : ℕ) → i < length xs
     → bit_or (bits (filter p (take i xs))) (1 * 2 ^ slice_index xs i % 18446744073709551616) ≡ bits (filter p (take (i + 1) xs))
 bits-passed p xs i low small passes = rw (one_shl (slice_index xs i) 64 small, filter_more p xs i 0 low, passes) (sym (bits-push (filter p (take i xs)) (slice_index xs i)))
 
+-- one more number that does not pass changes nothing
 pub bits-left_out : (p : ℕ → Bool) (xs : List ℕ) (i : ℕ) → i < length xs → p (slice_index xs i) ≡ false → bits (filter p (take i xs)) ≡ bits (filter p (take (i + 1) xs))
 bits-left_out p xs i low fails = rw (filter_more p xs i 0 low, fails, append-nil) refl
 
