@@ -1,4 +1,3 @@
 pub mod Exact
-pub mod Listed
-pub mod Laws
+pub mod IdentityLaws
 pub mod Unseen

@@ -1,24 +1,37 @@
 //! Which identities a card can have, as far as a blind set can tell: neither more nor fewer.
 //!
-//! A blind set is a set of seats whose hands are not seen. It observes the events of a game without the identities that
-//! these seats are dealt or draw. An identity is possible for a card where some full deck, played from the deal on by the
-//! same acts, gives the same observation and has that identity at the card's order. `IsPossible` of `hb_rules` says so.
+//! A blind set is a set of seats whose hands are not seen. It observes the events of a game without
+//! the identities that these seats are dealt or draw. An identity is possible for a card if some
+//! full deck, played from the deal on by the same acts, gives the same observation and has that
+//! identity at the card's order. `IsPossible` of `hb_rules` says so.
 //!
 //! The contracts promise, in the words of `specs/Exact.antt`:
-//! - `identities` answers exactly the possible identities of a card in a hand, and `None` for every other order. The set
-//!   holds the card's own identity, so it is never empty. A card that the blind set sees has its one identity, and so has
-//!   every card after the end, when the whole deck is shown.
+//! - `identities` answers exactly the possible identities of a card in a hand, and `None` for every
+//!   other order. The set holds the card's own identity, so it is never empty. A card that the
+//!   blind set sees has its one identity, and so has every card after the end, when the whole deck
+//!   is shown.
 //! - `hand_sets` answers the same for each card of a hand.
-//! - `deals_are_choices` is a law: while the game runs, the decks that give an observation are the ways to choose
-//!   identities for the hidden cards that meet each card's clues and use no identity beyond its copies.
+//! - `deals_are_choices` is a law: while the game runs, the decks that give an observation are the
+//!   ways to choose identities for the hidden cards that meet each card's clues and use no identity
+//!   beyond its copies.
 //!
-//! No contract but that of the law speaks of clues or copies. The code goes by the law: it takes the marks that the clues
-//! have left on each hidden card and the copies that the blind set has not seen, and asks one matching for all of them.
-//! For one card alone, marks and copies would leave too much: of two cards that can only be c5 or d5, each of which has
-//! one copy left, every other card learns that it is neither.
+//! ```
+//! let blind = Blind::none().with(1); // seat 1, which does not see its own cards
+//! for (order, set) in hand_sets(&game, blind, 1).as_slice() {
+//!     // The card with this order can be the identity with number n if bit n of the set is 1.
+//!     let possible = set.count_ones();
+//! }
+//! let first = identities(&game, blind, 0); // seat 0 holds order 0, so this set has one identity
+//! ```
 //!
-//! `specs/Listed.antt` says when a list is that of the possible identities, ascending, for lines that print them;
-//! `proofs/Listed.antt` shows that there is one such list. No call takes memory, and a hand takes one matching.
+//! No contract except that of the law speaks of clues or copies. The code goes by the law: it takes
+//! the marks that the clues have left on each hidden card and the copies that the blind set has not
+//! seen, and asks one matching for all of them. For one card alone, marks and copies would leave
+//! too much: of two cards that can only be c5 or d5, each of which has one copy left, every other
+//! card learns that it is neither.
+//!
+//! The numbers of an exact set are also the list `possible` of `hb_rules`, by which lines that
+//! print them are functions of what was seen. No call takes memory, and a hand takes one matching.
 #![tactic(auto)]
 
 mod hidden;

@@ -1,5 +1,5 @@
--- Decks of one length that agree on the cards that were played and discarded: who holds what does not depend on the cards, and
--- every count of a history is the same under both.
+-- What do decks of one length that agree on the cards played and discarded share? Who holds what does not depend on the cards,
+-- and every count of a history is the same under both.
 use Rattle.std.proofs.Common.{◌≡◌, ℕ, ◌+◌, Bool, true, false, cond, List, [], ◌∷◌, refl, ap, arith, sym, ◌∙◌, length}
 use Rattle.std.specs.Prelude.{if◌then◌else◌, filter, count_by}
 use Rattle.std.specs.List.{list_all, range_with_len}
@@ -18,28 +18,33 @@ use Rattle.hb_rules.specs.Result.{ended, is_stuck, height, lost, lost_copies, st
 abbrev pub with_cards : Setup → List Identity → Setup
 with_cards g deck = record g { deck = record { items = deck } }
 
--- who receives, holds and draws what does not depend on the cards
+-- who receives what does not depend on the cards
 pub receiver-same : (g : Setup) (deck : List Identity) → length deck ≡ length g.deck.items → (past : List Act) (order : ℕ)
     → receiver (with_cards g deck) past order ≡ receiver g past order
 receiver-same g deck long [] order = refl
 receiver-same g deck long (act ∷ past) order = rw (receiver-same g deck long past order, long) refl
 
-holder-same : (g : Setup) (deck : List Identity) → length deck ≡ length g.deck.items → (past : List Act) (order : ℕ)
+-- nor does who holds what
+pub holder-same : (g : Setup) (deck : List Identity) → length deck ≡ length g.deck.items → (past : List Act) (order : ℕ)
     → holder (with_cards g deck) past order ≡ holder g past order
 holder-same g deck long past order = rw (receiver-same g deck long past order) refl
 
+-- nor what comes into a hand
 pub joins-same : (g : Setup) (deck : List Identity) → length deck ≡ length g.deck.items → (past : List Act) (act : Act)
     → joins (with_cards g deck) past act ≡ joins g past act
 joins-same g deck long past act = rw long refl
 
-filter-same : (p q : ℕ → Bool) → ((k : ℕ) → p k ≡ q k) → (xs : List ℕ) → filter p xs ≡ filter q xs
+-- tests that agree keep the same numbers
+pub filter-same : (p q : ℕ → Bool) → ((k : ℕ) → p k ≡ q k) → (xs : List ℕ) → filter p xs ≡ filter q xs
 filter-same p q e [] = refl
 filter-same p q e (x ∷ xs) = rw (e x, filter-same p q e xs) refl
 
+-- nor does a hand depend on the cards
 pub hand-same : (g : Setup) (deck : List Identity) → length deck ≡ length g.deck.items → (past : List Act) (seat : ℕ)
     → hand (with_cards g deck) past seat ≡ hand g past seat
 hand-same g deck long past seat =
-    rw long (filter-same _ _ (λ order. ap (λ o. is_at o seat) (holder-same g deck long past order)) (range_with_len 0 (length g.deck.items)))
+    rw long (filter-same _ _ (λ order. ap (λ o. is_at o seat) (holder-same g deck long past order))
+    (range_with_len 0 (length g.deck.items)))
 
 -- the counts of a history under two decks
 pub record SameCounts (g h : Setup) (past : List Act) : Type 0 where
@@ -68,7 +73,8 @@ counts-play g deck past who order long e ih =
       heights = λ s. rw (e, ih.heights s) refl;
       lost = rw (f, ih.lost) refl;
       copies = λ id. ap (λ b. count_by (λ k. same_identity id (card h k)) (if b then lost h past else order ∷ lost h past)) f
-          ∙ count-lost (λ k. same_identity id (card h k)) (λ k. same_identity id (card g k)) (fits g past order) order _ _ (ap (same_identity id) e) (ih.copies id);
+          ∙ count-lost (λ k. same_identity id (card h k)) (λ k. same_identity id (card g k)) (fits g past order) order _ _
+          (ap (same_identity id) e) (ih.copies id);
       strikes = rw (f, ih.strikes) refl;
       tokens = rw (f, ih.tokens, e) refl;
       emptied = rw (ih.emptied, long) refl;
@@ -80,7 +86,8 @@ counts-discard : (g : Setup) (deck : List Identity) (past : List Act) (who order
 counts-discard g deck past who order long e ih = let h : Setup = with_cards g deck in record {
   heights = ih.heights;
   lost = rw ih.lost refl;
-  copies = λ id. count-lost (λ k. same_identity id (card h k)) (λ k. same_identity id (card g k)) false order (lost h past) (lost g past) (ap (same_identity id) e) (ih.copies id);
+  copies = λ id. count-lost (λ k. same_identity id (card h k)) (λ k. same_identity id (card g k)) false order (lost h past) (lost g past)
+      (ap (same_identity id) e) (ih.copies id);
   strikes = ih.strikes;
   tokens = rw ih.tokens refl;
   emptied = rw (ih.emptied, long) refl;
@@ -103,8 +110,17 @@ SameGone g past deck = (order : ℕ) → is_gone past order ≡ true → card (w
 -- then all counts are
 pub same-counts : (g : Setup) (deck : List Identity) → length deck ≡ length g.deck.items → (past : List Act) → SameGone g past deck
     → SameCounts (with_cards g deck) g past
-same-counts g deck long [] gone = record { heights = λ s. refl; lost = refl; copies = λ id. refl; strikes = refl; tokens = refl; emptied = rw long refl }
-same-counts g deck long (act ∷ past) gone = step act.action gone (same-counts g deck long past (λ order h. gone order (gone-before past act order h)))
+same-counts g deck long [] gone = record {
+  heights = λ s. refl;
+  lost = refl;
+  copies = λ id. refl;
+  strikes = refl;
+  tokens = refl;
+  emptied =
+      rw long refl;
+}
+same-counts g deck long (act ∷ past) gone = step act.action gone
+    (same-counts g deck long past (λ order h. gone order (gone-before past act order h)))
   where
     step : (a : Action) → SameGone g (record { who = act.who; action = a } ∷ past) deck → SameCounts (with_cards g deck) g past
         → SameCounts (with_cards g deck) g (record { who = act.who; action = a } ∷ past)
@@ -136,5 +152,6 @@ pub ended-same : (g : Setup) (deck : List Identity) (past : List Act) → SameCo
     → ended (with_cards g deck) past ≡ ended g past
 unfolding ended
 ended-same g deck past e =
-    let stuck : (s : ℕ) → is_stuck (with_cards g deck) past s ≡ is_stuck g past s = λ s. rw (e.heights s, e.copies (record { suit = s; rank = height g past s + 1 })) refl in
+    let stuck : (s : ℕ) → is_stuck (with_cards g deck) past s ≡ is_stuck g past s =
+    λ s. rw (e.heights s, e.copies (record { suit = s; rank = height g past s + 1 })) refl in
     rw (e.strikes, e.emptied, list_all-same (is_stuck (with_cards g deck) past) (is_stuck g past) stuck) refl

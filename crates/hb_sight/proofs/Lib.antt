@@ -1,5 +1,7 @@
-pub mod Places
-pub mod Seats
-pub mod Acts
+pub mod EventPlaces
+pub mod BlindSeats
+pub mod NamedActs
 pub mod Agreement
-pub mod Seen
+pub mod SeenLemmas
+pub mod Beginning
+pub mod ActParts

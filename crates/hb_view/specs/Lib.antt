@@ -1,3 +1,3 @@
-pub mod Hands
+pub mod Begins
+pub mod HandLines
 pub mod Standing
-pub mod Laws

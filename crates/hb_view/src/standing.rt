@@ -1,13 +1,14 @@
-//! How a game stands: the line of its state, and the lines of all hands.
+//! How does a game stand, in the line of its state and the lines of all hands?
 
-ghost use Rattle.std.specs.Prelude.{◌≡◌, ℕ, ◌≤◌, ◌++◌, IfOk, length, map, string_bytes};
+ghost use Rattle.std.specs.Prelude.{◌≡◌, ℕ, ◌≤◌, ◌++◌, IfOk, OnErr, OnOk, length, map, string_bytes};
 ghost use Rattle.std.specs.List.{range_with_len};
 ghost use Rattle.hb_rules.specs.Cards.{suit_count};
-ghost use Rattle.hb_rules.specs.Events.{observation};
-ghost use Rattle.hb_rules.specs.Result.{height};
+ghost use Rattle.hb_rules.specs.Observed.{observed};
+ghost use Rattle.hb_rules.specs.Positions.{height};
 ghost use Rattle.hb_wire.specs.Lines.{state_line as state_line_of};
-ghost use Rattle.hb_view.specs.Hands.{AreHandLines};
-ghost use Rattle.hb_view.specs.Standing.{IsStanding, seen_state, state_of as state_of_position};
+ghost use Rattle.hb_view.specs.Begins.{BeginsWith};
+ghost use Rattle.hb_view.specs.HandLines.{hand_lines_of};
+ghost use Rattle.hb_view.specs.Standing.{seen_state, standing_text, state_of};
 
 use crate::hands::hand_line;
 use crate::lines::push_line;
@@ -22,7 +23,8 @@ use std::alloc::{AllocError, Global};
 
 /// The heights of the suits, in suit order.
 fn stacks(game: &Game) -> ArrayVec<u8, MOST_SUITS>
-    ensures { result.items ≡ map (height game.now.setup game.now.past) (range_with_len 0 (suit_count game.now.setup.variant)) }
+    ensures { result.items
+        ≡ map (height game.now) (range_with_len 0 (suit_count game.now.setup.variant)) }
 {
     let mut heights = ArrayVec::new();
     for suit in 0..suit_count(game.variant()) {
@@ -31,9 +33,10 @@ fn stacks(game: &Game) -> ArrayVec<u8, MOST_SUITS>
     heights
 }
 
-/// How a game stands.
+/// How a game stands. It can be read off what any blind set has observed.
 pub fn state_of(game: &Game) -> State
-    ensures { result ≡ state_of_position game.now }
+    ensures is { result ≡ state_of game.now }
+    ensures seen { (blind : ℕ) → result ≡ seen_state (observed blind game.now) }
 {
     State {
         current: game.current(),
@@ -48,36 +51,38 @@ pub fn state_of(game: &Game) -> State
 
 /// The line of a game's state. It can be read off what any blind set has observed.
 pub fn state_line(alloc: Global, game: &Game) -> Result<String, AllocError>
-    ensures { IfOk result (λ s. (blind : ℕ) → string_bytes s ≡ state_line_of (seen_state game.now.setup.variant
-        game.now.setup.options game.now.setup.players (observation blind game.now.setup game.now.past))) }
+    ensures { IfOk result (λ s. (blind : ℕ) →
+        string_bytes s ≡ state_line_of (seen_state (observed blind game.now))) }
 {
-    game.facts();
     state_text(alloc, &state_of(game))
 }
 
-/// The lines of all hands, in order of seats, for a viewer with this blind set.
-fn hand_lines(alloc: Global, game: &Game, blind: Blind) -> Result<Bytes, AllocError>
-    ensures { IfOk result (λ text. AreHandLines blind.bits game.now.setup.variant game.now.setup.options
-        game.now.setup.players (observation blind.bits game.now.setup game.now.past) game.now.setup.players text) }
+/// Appends the lines of all hands, in order of seats, for a viewer with this blind set.
+fn push_hands(out: &mut Bytes, alloc: Global, blind: Blind, game: &Game) -> Result<(), AllocError>
+    ensures written { OnOk result
+        (out.new ≡ out.old ++ hand_lines_of (observed blind.bits game.now)) }
+    ensures kept { OnErr result (BeginsWith out.new out.old) }
 {
-    game.facts();
-    let mut out = Bytes::new(alloc);
     for seat in 0..game.players() {
         let line = hand_line(alloc, game, blind, seat)?;
-        push_line(&mut out, &line)?;
+        push_line(out, &line)?;
     }
-    Ok(out)
+    Ok(())
 }
 
-/// The line of a game's state and a line for each hand, in order of seats, for a viewer with this blind set.
-pub fn standing_lines(alloc: Global, game: &Game, blind: Blind) -> Result<Bytes, AllocError>
-    ensures { IfOk result (λ text. IsStanding blind.bits game.now.setup.variant game.now.setup.options
-        game.now.setup.players (observation blind.bits game.now.setup game.now.past) text) }
+/// Appends the line of a game's state and a line for each hand, in order of seats, for a viewer
+/// with this blind set. If memory runs out, `out` may hold a part of them.
+pub fn push_standing(
+    out: &mut Bytes,
+    alloc: Global,
+    blind: Blind,
+    game: &Game,
+) -> Result<(), AllocError>
+    ensures written { OnOk result
+        (out.new ≡ out.old ++ standing_text (observed blind.bits game.now)) }
+    ensures kept { OnErr result (BeginsWith out.new out.old) }
 {
-    let mut out = Bytes::new(alloc);
     let line = state_line(alloc, game)?;
-    push_line(&mut out, &line)?;
-    let hands = hand_lines(alloc, game, blind)?;
-    out.extend(hands.as_slice())?;
-    Ok(out)
+    push_line(out, &line)?;
+    push_hands(out, alloc, blind, game)
 }
