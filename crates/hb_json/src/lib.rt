@@ -1,9 +1,25 @@
-//! JSON values that replays and messages have in common: whole numbers, lists of texts and the canonical options object.
+//! What replays, requests and lines have in common of their JSON: whole numbers, lists of texts,
+//! the options of a game and actions as values, the reading of options, and lines of a word and a
+//! value.
 //!
-//! A definition says which data a value holds (`specs/Values.antt`), and each function's contract is that its value holds
-//! that data. The proofs show that the data hold no float and nest little, so that their text is exact and reads back.
+//! A definition says which data a value holds (`specs/Values.antt`) or what is read of data
+//! (`specs/JsonReading.antt`, `specs/OptionKey.antt`, `specs/WrittenModes.antt`), and each
+//! function's contract is that. The proofs show that the data hold no float and nest little, so
+//! that their text is exact and reads back.
+//!
+//! An option's name, type, default and range stand here alone. A new option that is true or false
+//! is a variant of [`OptionKey`], a field of [`WrittenModes`] and a member that [`options_value`]
+//! writes.
 #![tactic(auto)]
 
+mod lines;
+mod modes;
+mod option_keys;
+mod reading;
 mod values;
 
-pub use values::{options_value, put_if, texts_value, wholes_value};
+pub use lines::line_text;
+pub use modes::{OptionFault, WrittenModes, starting_option, variant_option};
+pub use option_keys::{OptionKey, first_other};
+pub use reading::{byte, present};
+pub use values::{action_value, options_value, put_if, seat_value, texts_value, wholes_value};

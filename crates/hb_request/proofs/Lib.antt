@@ -1,0 +1,3 @@
+pub mod WordOf
+pub mod PlainRequest
+pub mod RequestText

@@ -1,0 +1,242 @@
+//! Which lines are sent to a connection, and how is each of them printed?
+
+ghost use Rattle.std.specs.Prelude.{◌≡◌, IfOk};
+ghost use Rattle.serde_json.specs.View.{view};
+ghost use Rattle.hb_wire.specs.WireLine.{line_data, line_text as line_text_of, line_word as line_word_of};
+
+use crate::events::{event_value, event_word};
+use crate::game::game_value;
+use crate::hand::hand_value;
+use crate::objects::{name_value, whole_value};
+use crate::replies::{bad_value, refused_value};
+use crate::state::{State, state_value};
+use crate::stream::{clock_value, opened_value, review_value, viewer_value, watching_value};
+use arrayvec::ArrayVec;
+use hb_io::{Name, Text, Texts};
+use hb_json::line_text;
+use hb_request::WireError;
+use hb_rules::{Action, Event, MOST_HAND, MOST_PLAYERS, Options};
+use serde_json::{Map, Value};
+use std::alloc::{AllocError, Global};
+
+/// The most seats, as the size of a list.
+pub const SEATS: usize = MOST_PLAYERS as usize;
+
+/// How somebody sees a table.
+#[derive(Clone, Copy, PartialEq, Eq, Debug)]
+pub enum Role {
+    /// As a guest.
+    Guest,
+    /// From a seat.
+    Seat(u8),
+    /// As a watcher, who may share the sight of a seat.
+    Watcher(Option<u8>),
+}
+
+/// A line to a connection. Its fields are the keys of its JSON object.
+#[derive(Debug, Drop)]
+pub enum WireLine {
+    /// `welcome`: a name is taken.
+    Welcome {
+        name: Name,
+    },
+    /// `denied`: a request is not for this session or room. The code is 1 for a bad name, 2 for a
+    /// wrong key, 3 for a full house, 4 for no such room, 5 for a request before a taken `hello`,
+    /// and 6 for a `hello` after a taken one.
+    Denied {
+        code: u8,
+    },
+    /// `bad`: a message asks nothing. The code is the number of the error, and the line of a wrong
+    /// field names it.
+    Bad {
+        error: WireError,
+    },
+    /// `ok`: a numbered request is done.
+    Ok {
+        number: u32,
+    },
+    /// `refused`: a numbered request is refused, with the number of the refusal as the code.
+    /// Besides it may give the number of a review's error, the number of a broken rule and the
+    /// latest table. What is not given has no key.
+    Refused {
+        code: u8,
+        number: u32,
+        review: Option<u8>,
+        rule: Option<u8>,
+        table: Option<u32>,
+    },
+    /// `viewer`: the stream of a table begins.
+    Viewer {
+        role: Role,
+        room: u32,
+        table: u32,
+    },
+    /// `opened`: a table is open, with these options of this variant.
+    Opened {
+        host: Name,
+        variant: Text,
+        options: Options,
+    },
+    /// `sat`: somebody took a seat.
+    Sat {
+        name: Name,
+    },
+    /// `rose`: somebody left a seat.
+    Rose {
+        name: Name,
+    },
+    /// `left`: somebody watches no more.
+    Left {
+        name: Name,
+    },
+    /// `watching`: somebody watches.
+    Watching {
+        name: Name,
+        shadow: Option<u8>,
+    },
+    /// `game`: a game begins, or a kept one is shown.
+    Game {
+        variant: Text,
+        options: Options,
+        players: Texts,
+    },
+    /// `draw`, `play`, `discard`, `clue`, `end` or `deck`: something happened in the game.
+    Event(Event),
+    /// `state`: how the game stands.
+    State(State),
+    /// `clock`: the banks of the seats at a moment, all in milliseconds, and the seat whose time
+    /// runs.
+    Clock {
+        banks: ArrayVec<u64, SEATS>,
+        moment: u64,
+        running: Option<u8>,
+    },
+    /// `hand`: for each card of a seat its order and the set of identities that it can have, as
+    /// bits by identity number.
+    Hand {
+        seat: u8,
+        cards: ArrayVec<(u8, u64), MOST_HAND>,
+    },
+    /// `paused`: somebody stopped the clock.
+    Paused {
+        by: Name,
+    },
+    /// `resumed`: somebody let the clock run again.
+    Resumed {
+        by: Name,
+    },
+    /// `saved`: the game is kept under this id.
+    Saved {
+        id: u64,
+    },
+    /// `loaded`: the kept game with this id is shown.
+    Loaded {
+        id: u64,
+    },
+    /// `nogame`: no game is kept under this id.
+    NoGame {
+        id: u64,
+    },
+    /// `review`: the review stands at a turn with some hypothetical actions after it. The action is
+    /// the last of them, if it was just taken.
+    Review {
+        action: Option<Action>,
+        hypos: u16,
+        turn: u16,
+    },
+    /// `closed`: the table is closed.
+    Closed,
+}
+
+/// The word of a line.
+fn line_word(line: &WireLine) -> &'static str
+    ensures { result.now ≡ line_word_of line.now }
+{
+    match line {
+        WireLine::Welcome { .. } => "welcome",
+        WireLine::Denied { .. } => "denied",
+        WireLine::Bad { .. } => "bad",
+        WireLine::Ok { .. } => "ok",
+        WireLine::Refused { .. } => "refused",
+        WireLine::Viewer { .. } => "viewer",
+        WireLine::Opened { .. } => "opened",
+        WireLine::Sat { .. } => "sat",
+        WireLine::Rose { .. } => "rose",
+        WireLine::Left { .. } => "left",
+        WireLine::Watching { .. } => "watching",
+        WireLine::Game { .. } => "game",
+        WireLine::Event(event) => event_word(event),
+        WireLine::State(_) => "state",
+        WireLine::Clock { .. } => "clock",
+        WireLine::Hand { .. } => "hand",
+        WireLine::Paused { .. } => "paused",
+        WireLine::Resumed { .. } => "resumed",
+        WireLine::Saved { .. } => "saved",
+        WireLine::Loaded { .. } => "loaded",
+        WireLine::NoGame { .. } => "nogame",
+        WireLine::Review { .. } => "review",
+        WireLine::Closed => "closed",
+    }
+}
+
+/// What a line says.
+fn line_value(alloc: Global, line: &WireLine) -> Result<Value, AllocError>
+    ensures { IfOk result (λ v. view v ≡ line_data line.now) }
+{
+    match line {
+        WireLine::Welcome { name }
+        | WireLine::Sat { name }
+        | WireLine::Rose { name }
+        | WireLine::Left { name } => name_value(alloc, "name", *name),
+        WireLine::Paused { by } | WireLine::Resumed { by } => name_value(alloc, "by", *by),
+        WireLine::Denied { code } => whole_value(alloc, "code", u64::from(*code)),
+        WireLine::Ok { number } => whole_value(alloc, "number", u64::from(*number)),
+        WireLine::Saved { id } | WireLine::Loaded { id } | WireLine::NoGame { id } => whole_value(
+            alloc, "id", *id,
+        ),
+        WireLine::Bad { error } => bad_value(alloc, *error),
+        WireLine::Refused {
+            code,
+            number,
+            review,
+            rule,
+            table,
+        } => refused_value(alloc, *code, *number, *review, *rule, *table),
+        WireLine::Viewer { role, room, table } => viewer_value(alloc, *role, *room, *table),
+        WireLine::Opened {
+            host,
+            variant,
+            options,
+        } => opened_value(alloc, *host, variant.as_str(), options),
+        WireLine::Watching { name, shadow } => watching_value(alloc, *name, *shadow),
+        WireLine::Game {
+            variant,
+            options,
+            players,
+        } => game_value(alloc, variant.as_str(), options, players.as_slice()),
+        WireLine::Event(event) => event_value(alloc, event),
+        WireLine::State(state) => state_value(alloc, state),
+        WireLine::Clock {
+            banks,
+            moment,
+            running,
+        } => clock_value(alloc, banks, *moment, *running),
+        WireLine::Hand { seat, cards } => hand_value(alloc, *seat, cards),
+        WireLine::Review {
+            action,
+            hypos,
+            turn,
+        } => review_value(alloc, *action, *hypos, *turn),
+        WireLine::Closed => Ok(Value::Object(Map::new(alloc))),
+    }
+}
+
+/// The text of a line, without a line feed.
+#[tactic(auto, unfolding(crate::specs::WireLine::line_text))]
+pub fn print_line(alloc: Global, line: &WireLine) -> Result<Text, AllocError>
+    ensures { IfOk result (λ text. text ≡ line_text_of line.now) }
+{
+    let value = line_value(alloc, line)?;
+    let text = line_text(alloc, line_word(line), &value)?;
+    Ok(Text::from_string(text))
+}
