@@ -1,36 +1,20 @@
--- The one text in which a replay is written: a JSON value without spaces, whose keys `put` keeps in byte order.
+-- The one text in which a replay is written: a JSON value without spaces, whose keys `put` keeps in
+-- byte order.
 use Rattle.std.specs.Prelude.{ℕ, List, codes, map, not, ◌==◌, length, reverse}
 use Rattle.serde_json.specs.Data.{Data, array, object, no_members, member, put}
 use Rattle.serde_json.specs.View.{items_of}
 use Rattle.serde_json.specs.Written.{compact_text}
-use Rattle.hb_json.specs.Values.{whole, texts_data, put_if, options_data}
+use Rattle.hb_json.specs.Values.{whole, texts_data, put_if, options_data, action_data}
 use Rattle.hb_rules.specs.declared.suits.Identity.{Identity}
 use Rattle.hb_rules.specs.declared.acts.Act.{Act}
-use Rattle.hb_rules.specs.declared.acts.Action.{Action}
-use Rattle.hb_rules.specs.declared.acts.Action.TheVariants as action
-use Rattle.hb_rules.specs.declared.acts.Clue.TheVariants as clue
 use Rattle.hb_replay.specs.Contents.{Contents}
-use Rattle.hb_rules.specs.Numbers.{end_number}
 
 -- a card
 abbrev pub card_data : Identity → Data
-card_data id = object (member (codes "rank") (whole id.rank) (member (codes "suitIndex") (whole id.suit) no_members))
-
--- an action of type 0 or 1
-abbrev pub short_data : ℕ → ℕ → Data
-short_data target kind = object (member (codes "target") (whole target) (member (codes "type") (whole kind) no_members))
-
--- an action of type 2, 3 or 4
-abbrev pub long_data : ℕ → ℕ → ℕ → Data
-long_data target kind value = object (member (codes "target") (whole target) (member (codes "type") (whole kind) (member (codes "value") (whole value) no_members)))
-
--- an action; the seat that takes it is written for an end alone
-abbrev pub action_data : ℕ → Action → Data
-action_data who (action.Play order) = short_data order 0
-action_data who (action.Discard order) = short_data order 1
-action_data who (action.Clue to (clue.Color c)) = long_data to 2 c
-action_data who (action.Clue to (clue.Rank r)) = long_data to 3 r
-action_data who (action.End how) = long_data who 4 (end_number how)
+card_data id =
+    object
+    (member (codes "rank") (whole id.rank)
+    (member (codes "suitIndex") (whole id.suit) no_members))
 
 abbrev pub act_data : Act → Data
 act_data act = action_data act.who act.action
@@ -44,7 +28,7 @@ acts_data acts = array (items_of (map act_data acts))
 abbrev pub notes_data : List (List (List ℕ)) → Data
 notes_data notes = array (items_of (map texts_data notes))
 
--- the value of a replay; notes are written where there are any
+-- the value of a replay; notes are written if there are any
 unfoldable pub replay_data : Contents → Data
 replay_data r = object (
     put_if (not (length r.notes == 0)) (codes "notes") (notes_data r.notes)

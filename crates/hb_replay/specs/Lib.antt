@@ -1,9 +1,11 @@
-pub mod Results
 pub mod Places
 pub mod Errors
 pub mod Shape
 pub mod Contents
+pub mod WrittenReplay
 pub mod Refusals
-pub mod Reading
+pub mod ReplayReading
+pub mod Says
 pub mod ReplayOf
+pub mod RefusalOf
 pub mod Canonical

@@ -1,59 +1,34 @@
-//! Writing a replay: its JSON value, and the one text of that.
+//! Which JSON value is a replay written as, and what is its text?
 
 ghost use Rattle.std.specs.Prelude.{◌≡◌, IfOk, Ok};
 ghost use Rattle.serde_json.specs.View.{view};
-ghost use Rattle.hb_replay.specs.Canonical.{card_data, short_data, long_data, act_data, cards_data, acts_data, notes_data, replay_data, canonical_text};
-ghost use Rattle.hb_replay.specs.Reading.{IsReading};
+ghost use Rattle.hb_replay.specs.Contents.{IsReplay};
+ghost use Rattle.hb_replay.specs.Canonical.{card_data, act_data, cards_data, acts_data, notes_data, replay_data, canonical_text};
+ghost use Rattle.hb_replay.specs.ReplayReading.{IsReading};
 ghost use Rattle.hb_json.specs.Values.{texts_data};
 
 use crate::replay::Replay;
 use hb_io::{Bytes, Texts};
-use hb_json::{options_value, put_if, texts_value};
-use hb_rules::{Act, Action, Clue, Identity};
+use hb_json::{action_value, options_value, put_if, texts_value};
+use hb_rules::{Act, Identity};
 use serde_json::{Map, Value, json, put};
 use std::alloc::{AllocError, Global};
 
-/// A card.
+/// A card as an object of its rank and its suit.
 fn card_value(alloc: Global, id: Identity) -> Result<Value, AllocError>
     ensures { IfOk result (λ v. view v ≡ card_data id) }
 {
     json!(in alloc; {"rank": id.rank, "suitIndex": id.suit})
 }
 
-/// An action of type 0 or 1.
-fn short_value(alloc: Global, target: u8, kind: u8) -> Result<Value, AllocError>
-    ensures { IfOk result (λ v. view v ≡ short_data target kind) }
-{
-    json!(in alloc; {"target": target, "type": kind})
-}
-
-/// An action of type 2, 3 or 4.
-fn long_value(alloc: Global, target: u8, kind: u8, value: u8) -> Result<Value, AllocError>
-    ensures { IfOk result (λ v. view v ≡ long_data target kind value) }
-{
-    json!(in alloc; {"target": target, "type": kind, "value": value})
-}
-
-/// An act.
+/// An act as an action is written, with its seat only for an end.
 fn act_value(alloc: Global, act: Act) -> Result<Value, AllocError>
     ensures { IfOk result (λ v. view v ≡ act_data act) }
 {
-    match act.action {
-        Action::Play { order } => short_value(alloc, order, 0),
-        Action::Discard { order } => short_value(alloc, order, 1),
-        Action::Clue {
-            to,
-            clue: Clue::Color(color),
-        } => long_value(alloc, to, 2, color),
-        Action::Clue {
-            to,
-            clue: Clue::Rank(rank),
-        } => long_value(alloc, to, 3, rank),
-        Action::End { how } => long_value(alloc, act.who, 4, how.number()),
-    }
+    action_value(alloc, act.who, act.action)
 }
 
-/// The cards.
+/// The cards as a list, in their order.
 fn cards_value(alloc: Global, cards: &[Identity]) -> Result<Value, AllocError>
     ensures { IfOk result (λ v. view v ≡ cards_data cards.now) }
 {
@@ -64,7 +39,7 @@ fn cards_value(alloc: Global, cards: &[Identity]) -> Result<Value, AllocError>
     Ok(Value::Array(items))
 }
 
-/// The acts.
+/// The acts as a list, the oldest first.
 fn acts_value(alloc: Global, acts: &[Act]) -> Result<Value, AllocError>
     ensures { IfOk result (λ v. view v ≡ acts_data acts.now) }
 {
@@ -75,14 +50,14 @@ fn acts_value(alloc: Global, acts: &[Act]) -> Result<Value, AllocError>
     Ok(Value::Array(items))
 }
 
-/// A list of notes.
+/// A list of notes as a list of texts.
 fn note_list_value(alloc: Global, texts: &Texts) -> Result<Value, AllocError>
     ensures { IfOk result (λ v. view v ≡ texts_data texts.now) }
 {
     texts_value(alloc, texts.as_slice())
 }
 
-/// The lists of notes.
+/// The lists of notes as a list of lists.
 fn notes_value(alloc: Global, lists: &[Texts]) -> Result<Value, AllocError>
     ensures { IfOk result (λ v. view v ≡ notes_data lists.now) }
 {
@@ -93,10 +68,11 @@ fn notes_value(alloc: Global, lists: &[Texts]) -> Result<Value, AllocError>
     Ok(Value::Array(items))
 }
 
-/// A replay's value.
+/// A replay as an object; notes are written only if there are lists of notes.
 #[tactic(auto, unfolding(crate::specs::Canonical::replay_data))]
 fn replay_value(alloc: Global, replay: &Replay) -> Result<Value, AllocError>
-    ensures { IfOk result (λ v. view v ≡ replay_data replay.now) }
+    ensures value { IfOk result (λ v. view v ≡ replay_data replay.now) }
+    ensures replay { IsReplay replay.now }
 {
     let mut map = Map::new(alloc);
     let acts = acts_value(alloc, replay.acts())?;
@@ -113,15 +89,14 @@ fn replay_value(alloc: Global, replay: &Replay) -> Result<Value, AllocError>
     Ok(Value::Object(map))
 }
 
-/// The canonical text of a replay, as bytes: compact JSON with keys in byte order, in which each option stands only where
-/// it is not its default. What is read of it is this replay.
+/// The canonical text of a replay, as bytes: compact JSON with keys in byte order, in which each
+/// option stands only where it is not its default. What is read of it is this replay.
 ///
 /// It takes time and memory in proportion to the text.
 pub fn write(alloc: Global, replay: &Replay) -> Result<Bytes, AllocError>
     ensures text { IfOk result (λ bytes. bytes ≡ canonical_text replay.now) }
     ensures reads_back { IfOk result (λ bytes. IsReading bytes (Ok replay.now)) }
 {
-    replay.facts();
     let value = replay_value(alloc, replay)?;
     Ok(Bytes::from_vec(value.to_vec(alloc)?))
 }

@@ -16,22 +16,27 @@ use Rattle.hb_rules.specs.Start.{are_options}
 use Rattle.hb_replay.specs.declared.written.WrittenOptions.{WrittenOptions}
 use Rattle.hb_replay.specs.declared.written.WrittenReplay.{WrittenReplay}
 use Rattle.hb_replay.specs.Contents.{Contents, IsReplay, HasTimes}
-use Rattle.hb_replay.specs.Shape.{each_at, player_at, players_of, card_at, cards_of, action_at, actions_of, note_at, note_list_at, notes_of, shape_of}
-use Rattle.hb_replay.specs.Refusals.{option_fault, game_options, replay_of}
-use Rattle.hb_replay.specs.Canonical.{card_data, action_data, act_data, notes_data, replay_data}
+use Rattle.hb_replay.specs.Shape.{each_at, player_at, players_of, card_at, cards_of, action_at, actions_of, note_at, note_list_at, notes_of, options_in, shape_of}
+use Rattle.hb_replay.specs.WrittenReplay.{game_options}
+use Rattle.hb_replay.specs.Refusals.{replay_of}
+use Rattle.hb_json.specs.Values.{action_data, options_data}
+use Rattle.hb_json.proofs.OptionsData.{modes_of, SaysBack-options_data}
+use Rattle.hb_replay.specs.Canonical.{card_data, act_data, notes_data, replay_data}
 use Rattle.hb_replay.proofs.DeckTest.{deck-to}
 use Rattle.hb_replay.proofs.Found.{Found, gives}
-use Rattle.hb_replay.proofs.Acts.{written_action, written_act, legal-leads, leads-played}
-use Rattle.hb_replay.proofs.Bytes.{Every, IsByteCard, IsByteAction, IsByteAct, byte-cards, byte-acts}
-use Rattle.hb_replay.proofs.Options.{options-back}
+use Rattle.hb_replay.proofs.LeadsLemmas.{written_action, written_act, legal-leads, leads-played}
+use Rattle.hb_replay.proofs.IsByteAct.{Every, IsByteCard, IsByteAction, IsByteAct, byte-cards, byte-acts}
+use Rattle.hb_replay.proofs.ReplayOfLemmas.{allowed}
 
 -- a list whose items read back reads back
-each-back : {X Y E : Type 0} (f : ℕ → Data → Result Y E) (g : X → Data) (h : X → Y) (P : X → Type 0) → ((k : ℕ) (x : X) → P x → f k (g x) ≡ Ok (h x)) → (k : ℕ) (xs : List X) → Every P xs
+each-back : {X Y E : Type 0} (f : ℕ → Data → Result Y E) (g : X → Data) (h : X → Y) (P : X → Type 0)
+    → ((k : ℕ) (x : X) → P x → f k (g x) ≡ Ok (h x)) → (k : ℕ) (xs : List X) → Every P xs
     → each_at f k (items_of (map g xs)) ≡ Ok (map h xs)
 each-back f g h P back k [] all = refl
 each-back f g h P back k (x ∷ xs) all = rw (back k x all.0, each-back f g h P back (k + 1) xs all.1) refl
 
-each-same : {X E : Type 0} (f : ℕ → Data → Result X E) (g : X → Data) → ((k : ℕ) (x : X) → f k (g x) ≡ Ok x) → (k : ℕ) (xs : List X) → each_at f k (items_of (map g xs)) ≡ Ok xs
+each-same : {X E : Type 0} (f : ℕ → Data → Result X E) (g : X → Data) → ((k : ℕ) (x : X) → f k (g x) ≡ Ok x) → (k : ℕ) (xs : List X)
+    → each_at f k (items_of (map g xs)) ≡ Ok xs
 each-same f g back k [] = refl
 each-same f g back k (x ∷ xs) = rw (back k x, each-same f g back (k + 1) xs) refl
 
@@ -72,27 +77,29 @@ actions-back acts all = each-back action_at act_data written_act IsByteAct (λ k
 
 -- the options as they read back
 abbrev written_options : List ℕ → Options → WrittenOptions
-written_options name o = record {
-  variant = name;
-  starting = if not (o.starting == 0) then o.starting else 0;
-  empty_clues = o.empty_clues;
-  extra_card = o.extra_card;
-  less_card = o.less_card;
-  timed = o.timed;
-  base_s = if o.timed then o.base_s else 120;
-  per_turn_s = if o.timed then o.per_turn_s else 20;
-  other = None;
-}
+written_options name o = record { variant = name; starting = o.starting; modes = modes_of o; other = None }
+
+options-back : (name : List ℕ) (o : Options) → options_in (options_data name o) ≡ Ok (written_options name o)
+unfolding options_in
+options-back name o = let h = SaysBack-options_data name o in rw (h.variant, h.starting, h.modes, h.others) refl
 
 -- a replay as it reads back
 abbrev written_replay : Contents → WrittenReplay
-written_replay r = record { players = r.players; deck = r.game.setup.deck.items; actions = map written_act (reverse r.game.past); options = written_options r.name r.game.setup.options; notes = r.notes }
+written_replay r = record {
+  players = r.players;
+  deck = r.game.setup.deck.items;
+  actions = map written_act
+      (reverse r.game.past);
+  options = written_options r.name r.game.setup.options;
+  notes = r.notes;
+}
 
 empty : {X : Type 0} (xs : List X) → not (length xs == 0) ≡ false → xs ≡ []
 empty [] e = refl
 empty (x ∷ xs) e = absurd (grind arith)
 
-shape-back : (r : Contents) → Every IsByteCard r.game.setup.deck.items → Every IsByteAct (reverse r.game.past) → shape_of (replay_data r) ≡ Ok (written_replay r)
+shape-back : (r : Contents) → Every IsByteCard r.game.setup.deck.items → Every IsByteAct (reverse r.game.past)
+    → shape_of (replay_data r) ≡ Ok (written_replay r)
 unfolding shape_of replay_data
 shape-back r cards acts = pick (not (length r.notes == 0)) refl
   where
@@ -100,38 +107,59 @@ shape-back r cards acts = pick (not (length r.notes == 0)) refl
     o = r.game.setup.options
 
     pick : (b : Bool) → not (length r.notes == 0) ≡ b → shape_of (replay_data r) ≡ Ok (written_replay r)
-    pick true e = rw (e, players-back r.players, cards-back r.game.setup.deck.items cards, actions-back (reverse r.game.past) acts, options-back r.name o.starting o.base_s o.per_turn_s (not (o.starting == 0)) o.empty_clues o.extra_card o.less_card o.timed, notes-back r.notes) refl
-    pick false e = rw (e, players-back r.players, cards-back r.game.setup.deck.items cards, actions-back (reverse r.game.past) acts, options-back r.name o.starting o.base_s o.per_turn_s (not (o.starting == 0)) o.empty_clues o.extra_card o.less_card o.timed, empty r.notes e) refl
+    pick true e = rw (
+      e,
+      players-back r.players,
+      cards-back r.game.setup.deck.items cards,
+      actions-back (reverse r.game.past) acts,
+      options-back r.name o,
+      notes-back r.notes,
+    ) refl
+    pick false e = rw (
+      e,
+      players-back r.players,
+      cards-back r.game.setup.deck.items cards,
+      actions-back (reverse r.game.past) acts,
+      options-back r.name o,
+      empty r.notes e,
+    ) refl
 
--- no option of a replay is refused
-none-refused : (name : List ℕ) (n : ℕ) (o : Options) → are_options n o ≡ true → option_fault n (written_options name o) ≡ None
-none-refused name n o h = grind arith
-
-seat-back : (n : ℕ) → (if not (n == 0) then n else 0) ≡ n
-seat-back n = grind arith
-
-time-back : (timed : Bool) (time default : ℕ) → (timed ≡ false → time ≡ default) → (if timed then (if timed then time else default) else default) ≡ time
+-- the options of a replay are those that are written
+time-back : (timed : Bool) (time default : ℕ) → (timed ≡ false → time ≡ default)
+    → (if timed then (if timed then time else default) else default) ≡ time
 time-back true time default h = refl
 time-back false time default h = sym (h refl)
 
 options-same : (name : List ℕ) (o : Options) → HasTimes o → game_options (written_options name o) ≡ o
-options-same name o h = rw (seat-back o.starting, time-back o.timed o.base_s 120 (λ e. (h e).0), time-back o.timed o.per_turn_s 20 (λ e. (h e).1)) refl
+options-same name o h = rw (time-back o.timed o.base_s 120 (λ e. (h e).0), time-back o.timed o.per_turn_s 20 (λ e. (h e).1)) refl
+
+options-at : (n m : ℕ) (o q : Options) → n ≡ m → q ≡ o → are_options m o ≡ true → are_options n q ≡ true
+options-at n m o q e f h = rw (e, f) h
 
 found-back : (r : Contents) → IsReplay r → Found (written_replay r) r.game
 found-back r h =
+    let o : Options = r.game.setup.options in
     let seats : length r.players ≡ r.game.setup.players = h.matches.seats in
+    let same : game_options (written_options r.name o) ≡ o = options-same r.name o h.matches.times in
+    let can : are_options (length r.players) (game_options (written_options r.name o)) ≡ true =
+    options-at (length r.players) r.game.setup.players o (game_options (written_options r.name o)) seats same h.played.can.options in
     record {
       players = rw seats h.played.can.players;
       variant = r.game.setup.variant;
       named = h.matches.named;
-      options = rw seats (none-refused r.name r.game.setup.players r.game.setup.options h.played.can.options);
+      options = allowed (length r.players) (written_options r.name o) can refl;
       deck = deck-to r.game.setup.variant r.game.setup.deck.items h.played.can.full;
-      acts = rw (seats, options-same r.name r.game.setup.options h.matches.times)
+      acts = rw (seats, same)
           (leads-played 0 _ (map written_act (reverse r.game.past)) r.game (legal-leads r.game.setup r.game.past h.played.legal));
       notes = h.matches.notes;
     }
 
+-- what is written of a replay reads back as it
 pub replay-back : (r : Contents) → IsReplay r → replay_of (replay_data r) ≡ Ok r
 replay-back r h =
     let can = h.played.can in
-    rw (shape-back r (byte-cards r.game.setup.variant r.game.setup.deck.items can.full) (byte-acts r.game.setup r.game.past can h.played.legal), gives (written_replay r) r.game (found-back r h)) refl
+    rw (
+      shape-back r (byte-cards r.game.setup.variant r.game.setup.deck.items can.full)
+          (byte-acts r.game.setup r.game.past can h.played.legal),
+      gives (written_replay r) r.game (found-back r h),
+    ) refl
