@@ -1,10 +1,12 @@
-//! The program: its words, and the real source and sinks. All that it does is `hb_cli::run`.
+//! What does the program run on? The words of its command line, and the real input and outputs.
+//! All that it does with them is [`hb_cli::run`].
 #![tactic(auto)]
 
 use hb_cli::{Status, report_no_memory, run};
 use hb_io::{StdSink, StdSource};
 use std::alloc::AllocError;
 use std::env;
+use std::io::ErrorKind;
 use std::process::ExitCode;
 
 fn main(rt: HostRuntime) -> ExitCode {
@@ -15,15 +17,14 @@ fn main(rt: HostRuntime) -> ExitCode {
     ExitCode::from(status.code())
 }
 
-/// The words without the program's name; none where one of them is not UTF-8, which is outside the grammar as well.
+/// The words without the program's name. There are none if one of them is not UTF-8, since such
+/// words are outside the grammar as well.
 fn arguments(rt: &HostRuntime) -> Result<Vec<String>, AllocError> {
-    let mut words = Vec::new(rt.alloc());
-    if let Ok(args) = env::args(rt) {
-        for word in args.skip(1) {
-            words.push(word)?;
-        }
+    match env::args(rt) {
+        Ok(args) => args.skip(1).collect(rt.alloc()),
+        Err(error) if error.kind() == ErrorKind::OutOfMemory => Err(AllocError),
+        Err(_) => Ok(Vec::new(rt.alloc())),
     }
-    Ok(words)
 }
 
 fn executed(rt: &HostRuntime) -> Result<Status, AllocError> {
