@@ -1,0 +1,4 @@
+pub mod IdLemmas
+pub mod ListingLemmas
+pub mod PlanLemmas
+mod Worked

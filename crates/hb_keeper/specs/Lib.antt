@@ -1,0 +1,5 @@
+pub mod KeptGames
+pub mod Listing
+pub mod MemoryKeeper
+pub mod Plans
+pub mod Told
