@@ -1,0 +1,15 @@
+pub mod Texts
+pub mod RunLemmas
+pub mod States
+pub mod Opens
+pub mod GameLemmas
+pub mod SelectLemmas
+pub mod Gets
+pub mod SeatLemmas
+pub mod KeyLemmas
+pub mod PutLemmas
+pub mod SchemaLemmas
+pub mod StoreWalks
+pub mod MemberLemmas
+pub mod LineLemmas
+pub mod OpenLemmas

@@ -1,0 +1,24 @@
+use Rattle.sqlite.specs.Held.{state}
+use Rattle.hb_sqlite.proofs.Gets.{round}
+use Rattle.hb_sqlite.proofs.PutLemmas.{places_game}
+use Rattle.hb_sqlite.proofs.writing.insert_row.Goals as goal
+
+pub returns-clause-placed : goal.returns-clause-placed
+returns-clause-placed g c =
+    let number = round c.stored.result c.args.key.now.run c.stored.ensures c.requires in
+    places_game (state g.S.Store c.args.tx.now.conn.now) (state g.S.Store c.execute.new.self.conn.now) c.args.key.now c.args.row.now
+    c.execute.result c.execute.ensures.survives.clean
+    (λ off. let same = (c.execute.ensures.ended off).1 in rw same (record { was_open = λ it. it; backed = λ content b. b }))
+    (λ clean inside. rw (
+      c.params-to_sql.ensures,
+      c.params-to_sql-2.ensures,
+      c.params-to_sql-3.ensures,
+      c.params-to_sql-4.ensures,
+      c.params-to_sql-5.ensures,
+      c.params-to_sql-6.ensures,
+      number,
+      c.from.ensures,
+      c.from-2.ensures,
+      c.as_str.ensures,
+    ) at
+    (c.execute.ensures.runs clean inside))

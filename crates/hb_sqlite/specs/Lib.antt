@@ -1,0 +1,7 @@
+pub mod Store
+pub mod Facts
+pub mod StoreSteps
+pub mod Within
+pub mod Rows
+pub mod Seats
+pub mod Stages

@@ -1,0 +1,219 @@
+//! How does a keeper answer from a database?
+
+ghost use Rattle.std.specs.Prelude.{◌≡◌, ◌≢◌, ◌⊎◌, ◌^◌, ◌<◌, ◌≤◌, ℤ, pos, Some, None, Ok, Err, if◌then◌else◌, IfOk, IfErr};
+ghost use Rattle.sqlite.specs.State.{HasCleanDisk};
+ghost use Rattle.sqlite.specs.Steps.{over_memory};
+ghost use Rattle.sqlite.specs.Held.{state};
+ghost use Rattle.hb_io.specs.Causes.{next_count};
+ghost use Rattle.hb_keeper.specs.declared.errors.KeepError.TheVariants.{Fault, KeyDiffers, NoMemory};
+ghost use Rattle.hb_keeper.specs.KeptGames.{Content, put_by, same_row};
+ghost use Rattle.hb_keeper.specs.Told.{Keeps, HasCause, IsFailure};
+ghost use Rattle.hb_sqlite.specs.Facts.{Tells};
+ghost use Rattle.hb_sqlite.specs.Stages.{HoldsVersion, IsNewStore, no_schema, nothing_kept};
+ghost use Rattle.hb_sqlite.specs.declared.errors.OpenError.TheVariants.{BadVersion};
+ghost use Rattle.hb_sqlite.specs.StoreSteps.{IsSure};
+
+use crate::errors::{Failure, OpenError};
+use crate::members::lines_of;
+use crate::numbers::GREATEST;
+use crate::opening::prepare;
+use crate::reading::{game, id_of_key};
+use crate::runs::{last_run, set_last_run};
+use crate::writing::write_game;
+use hb_io::Name;
+use hb_keeper::{GameRow, KeepError, Keeper, Key, Lines};
+use sqlite::{Alter, Connection, Error, ErrorCode, File, FileStore, MemStore};
+use std::alloc::Global;
+use std::rt::HostRuntime;
+
+/// Keeps games in a database.
+///
+/// Its answers are those of the tables' content, as long as the disk returns what was written and
+/// nobody else writes the store. A refused statement, and a row that no call of this keeper writes,
+/// raise its count and are answered as [`KeepError::Fault`]; what the call wrote is taken back.
+#[derive(Drop)]
+pub struct KeeperSql<S: Alter> {
+    conn: Connection<S>,
+    alloc: Global,
+    faults: u64,
+}
+
+impl KeeperSql<MemStore> {
+    /// A keeper without games, in memory.
+    pub fn open_memory(alloc: Global) -> Result<Self, OpenError>
+        ensures sure { IfOk result (λ k. IsSure (state over_memory k.conn)) }
+        ensures tells { IfOk result (λ k. Tells (state over_memory k.conn) nothing_kept) }
+        ensures version { (n : ℤ) → result ≢ Err (BadVersion n) }
+        ensures fresh { IfOk result (λ k. k.faults ≡ 0) }
+    {
+        let Ok(mut conn) = Connection::open_in_memory(alloc) else {
+            return Err(OpenError::NoMemory);
+        };
+        prepare(&mut conn)?;
+        Ok(KeeperSql {
+            conn,
+            alloc,
+            faults: 0,
+        })
+    }
+}
+
+impl KeeperSql<FileStore<File>> {
+    /// A keeper over a file, which is made if there is none.
+    ///
+    /// What the file holds is told by no clause. [`KeeperSql::adopt`] says what is kept of an open
+    /// connection.
+    pub fn open_file(rt: &HostRuntime, alloc: Global, path: &str) -> Result<Self, OpenError>
+        ensures { IfOk result (λ k. k.faults ≡ 0) }
+    {
+        match Connection::open(rt, path) {
+            Ok(conn) => KeeperSql::adopt(alloc, conn),
+            Err(Error::SqliteFailure(ErrorCode::OutOfMemory)) => Err(OpenError::NoMemory),
+            Err(_) => Err(OpenError::Fault),
+        }
+    }
+
+    /// Closes the file, with all that was written folded into it: a keeper that is dropped leaves a
+    /// log beside the file. At an error the log stays, and the next opening reads it.
+    pub fn close(self) -> Result<(), KeepError>
+        ensures { IfErr result IsFailure }
+    {
+        match self.conn.close() {
+            Ok(()) => Ok(()),
+            Err(Error::SqliteFailure(ErrorCode::OutOfMemory)) => Err(KeepError::NoMemory),
+            Err(_) => Err(KeepError::Fault),
+        }
+    }
+}
+
+impl<S: Alter + Drop> KeeperSql<S> {
+    /// A keeper over an open connection. A store without tables gets them in one transaction. At an
+    /// error the connection is dropped.
+    pub fn adopt(alloc: Global, mut conn: Connection<S>) -> Result<Self, OpenError>
+        ensures kept { IfOk result (λ k. IsSure (state S.Store k.conn) → (content : Content)
+            → Tells (state S.Store conn) content → Tells (state S.Store k.conn) content) }
+        ensures new { IfOk result (λ k. HasCleanDisk (state S.Store k.conn)
+            → (state S.Store conn).now.schema ≡ no_schema → IsNewStore (state S.Store k.conn)) }
+        ensures version { IfOk result (λ k. HasCleanDisk (state S.Store k.conn)
+            → (n : ℤ) → HoldsVersion (state S.Store conn) n → n ≡ pos 1) }
+        ensures fresh { IfOk result (λ k. k.faults ≡ 0) }
+    {
+        prepare(&mut conn)?;
+        Ok(KeeperSql {
+            conn,
+            alloc,
+            faults: 0,
+        })
+    }
+}
+
+impl<S: Alter> KeeperSql<S> {
+    /// The error of a failed step. A refusal is counted.
+    fn error(&mut self, failure: Failure) -> KeepError
+        ensures conn { self.new.conn ≡ self.old.conn }
+        ensures kind { (result ≡ Fault) ⊎ (result ≡ NoMemory) }
+        ensures later { self.old.faults ≤ self.new.faults }
+        ensures fault { result ≡ Fault → self.new.faults ≡ next_count self.old.faults }
+        ensures kept { result ≡ NoMemory → self.new.faults ≡ self.old.faults }
+    {
+        match failure {
+            Failure::Refused => {
+                self.faults = self.faults.saturating_add(1);
+                KeepError::Fault
+            }
+            Failure::NoMemory => KeepError::NoMemory,
+        }
+    }
+
+    /// Keeps a game under a key that is new.
+    fn append(&mut self, key: &Key, row: &GameRow) -> Result<u64, KeepError>
+        requires { key.now.run < 2 ^ 63 }
+        ensures keeps { IsSure (state S.Store self.new.conn) → Keeps (put_by None key.now row.now)
+            (Tells (state S.Store self.old.conn)) (Tells (state S.Store self.new.conn)) result }
+        ensures sure { IsSure (state S.Store self.new.conn) → IsSure (state S.Store self.old.conn) }
+        ensures cause { HasCause self.old.faults self.new.faults result }
+    {
+        match write_game(&mut self.conn, key, row) {
+            Ok(id) => Ok(id),
+            Err(failure) => Err(self.error(failure)),
+        }
+    }
+
+    /// The answer where the key is kept under this id.
+    fn again(&mut self, id: u64, key: &Key, row: &GameRow) -> Result<u64, KeepError>
+        ensures keeps { IsSure (state S.Store self.new.conn)
+            → Keeps (put_by (Some id) key.now row.now)
+            (Tells (state S.Store self.old.conn)) (Tells (state S.Store self.new.conn)) result }
+        ensures sure { IsSure (state S.Store self.new.conn) → IsSure (state S.Store self.old.conn) }
+        ensures cause { HasCause self.old.faults self.new.faults result }
+    {
+        let _ = key;
+        if id > GREATEST {
+            return Err(self.error(Failure::Refused));
+        }
+        match game(&mut self.conn, self.alloc, id) {
+            Ok(Some(kept)) => same_or_differs(id, &kept, row),
+            Ok(None) => Err(self.error(Failure::Refused)),
+            Err(failure) => Err(self.error(failure)),
+        }
+    }
+}
+
+fn same_or_differs(id: u64, kept: &GameRow, row: &GameRow) -> Result<u64, KeepError>
+    ensures { result ≡ (if same_row kept.now row.now then Ok id else Err (KeyDiffers id)) }
+{
+    if *kept == *row {
+        return Ok(id);
+    }
+    Err(KeepError::KeyDiffers(id))
+}
+
+impl<S: Alter> Keeper for KeeperSql<S> {
+    ghost tells = { λ k content. Tells (state S.Store k.conn) content };
+
+    ghost is_sure = { λ k. IsSure (state S.Store k.conn) };
+
+    ghost plan = { λ _. None };
+
+    ghost faults = { λ k. k.faults };
+
+    fn open_run(&mut self) -> Result<u64, KeepError> {
+        let last = match last_run(&mut self.conn) {
+            Ok(last) => last,
+            Err(failure) => return Err(self.error(failure)),
+        };
+        if last >= GREATEST {
+            return Err(KeepError::UsedUp);
+        }
+        let run = last + 1;
+        match set_last_run(&mut self.conn, run) {
+            Ok(_) => Ok(run),
+            Err(error) => Err(self.error(Failure::from(error))),
+        }
+    }
+
+    fn put_once(&mut self, key: &Key, row: &GameRow) -> Result<u64, KeepError> {
+        match id_of_key(&mut self.conn, key) {
+            Ok(None) => self.append(key, row),
+            Ok(Some(id)) => self.again(id, key, row),
+            Err(failure) => Err(self.error(failure)),
+        }
+    }
+
+    fn get(&mut self, id: u64) -> Result<Option<GameRow>, KeepError> {
+        if id > GREATEST {
+            return Ok(None);
+        }
+        match game(&mut self.conn, self.alloc, id) {
+            Ok(row) => Ok(row),
+            Err(failure) => Err(self.error(failure)),
+        }
+    }
+
+    fn of_member(&mut self, name: &Name) -> Result<Lines, KeepError> {
+        match lines_of(&mut self.conn, self.alloc, name) {
+            Ok(lines) => Ok(lines),
+            Err(failure) => Err(self.error(failure)),
+        }
+    }
+}
