@@ -8,7 +8,7 @@ use Rattle.hb_sets.specs.Sets.{bit, Has}
 use Rattle.hb_sets.proofs.Bits.{bit-lt, bit_le, member-lt, lt-from_members}
 use Rattle.hb_match.specs.Matching.{uses, copies_over, IsEnough, IsAssignment, NoAssignment, IsObstruction}
 use Rattle.hb_match.specs.Placing.{ShutsOut, Gathers}
-use Rattle.hb_match.proofs.Copies.{chosen-lt}
+use Rattle.hb_match.proofs.CopiesLeft.{chosen-lt}
 use Rattle.hb_match.proofs.Sums.{sum_below, sum_below-more, sum_below-le, ones-sum}
 use Rattle.hb_match.proofs.Weights.{weight, weight-uses, sum_below-le-weight, weight-le-sum_below}
 

@@ -1,5 +1,5 @@
 pub mod Uses
-pub mod Copies
+pub mod CopiesLeft
 pub mod Moves
 pub mod Gather
 pub mod Sums

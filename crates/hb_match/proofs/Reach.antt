@@ -7,7 +7,7 @@ use Rattle.hb_sets.proofs.Bits.{bit-lt, bit_le}
 use Rattle.hb_match.specs.Matching.{uses, IsEnough, IsAssignment, Possible, IsPossibleSet}
 use Rattle.hb_match.specs.Placing.{one, Holds, IsClosed}
 use Rattle.hb_match.proofs.Uses.{one-same, one-other}
-use Rattle.hb_match.proofs.Copies.{chosen-lt}
+use Rattle.hb_match.proofs.CopiesLeft.{chosen-lt}
 use Rattle.hb_match.proofs.Exchanged.{Reaches}
 use Rattle.hb_match.proofs.Sums.{sum_below, sum_below-add}
 use Rattle.hb_match.proofs.Weights.{weight, weight-le, sum_below-le-weight, weight-le-sum_below, sum_below-one_at}

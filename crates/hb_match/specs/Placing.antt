@@ -1,5 +1,7 @@
--- What the private functions do: the next card placed beside those that have an identity, with others moved.
--- A placed card is one with an index below the length of `chosen`; it holds `slice_index chosen k`.
+-- Internal: no public clause cites this.
+-- What the private functions do: the next card placed beside those that have an identity, with
+-- others moved. A placed card is one with an index below the length of `chosen`; it holds
+-- `slice_index chosen k`.
 use Rattle.std.specs.Prelude.{◌≡◌, ℕ, ◌+◌, ◌<◌, ◌==◌, ◌^◌, ◌⊎◌, List, length, slice_index, if◌then◌else◌}
 use Rattle.hb_sets.specs.Sets.{Has}
 use Rattle.hb_match.specs.Matching.{uses}
@@ -10,12 +12,15 @@ IsLeftOver left chosen over = (id : ℕ) → slice_index over id + uses chosen i
 
 -- each placed card holds an identity of its mask
 abbrev pub Holds : List ℕ → List ℕ → Type 0
-Holds masks chosen = (k : ℕ) → k < length chosen → Has (slice_index masks k) (slice_index chosen k) × (slice_index chosen k < 64)
+Holds masks chosen =
+    (k : ℕ) → k < length chosen → Has (slice_index masks k) (slice_index chosen k)
+    × (slice_index chosen k < 64)
 
 -- no card below n that holds an identity outside the set could take one inside
 abbrev pub IsClosed : List ℕ → List ℕ → ℕ → ℕ → Type 0
 IsClosed masks chosen free n =
-    (k : ℕ) → k < n → ¬ Has free (slice_index chosen k) → (id : ℕ) → Has (slice_index masks k) id → ¬ Has free id
+    (k : ℕ) → k < n → ¬ Has free (slice_index chosen k) → (id : ℕ) → Has (slice_index masks k) id
+    → ¬ Has free id
 
 -- the placed card `from` holds an identity outside the set and could take `to`, inside
 pub record CanMove (masks chosen : List ℕ) (free from to : ℕ) : Type 0 where
@@ -36,7 +41,8 @@ pub record Places (masks old new : List ℕ) (free over : ℕ) : Type 0 where
   pub holds : Holds masks new
   pub inside : Has free over
   pub small : over < 64
-  pub stays : (k : ℕ) → k < length old → Has free (slice_index old k) → slice_index new k ≡ slice_index old k
+  pub stays : (k : ℕ) → k < length old → Has free (slice_index old k)
+      → slice_index new k ≡ slice_index old k
   pub same_uses : (id : ℕ) → uses new id ≡ uses old id + one over id
 
 -- a wider set, which no placed card can move into, and in which the next card has no identity
@@ -45,11 +51,13 @@ pub record ShutsOut (masks chosen : List ℕ) (free closed : ℕ) : Type 0 where
   pub no_move : IsClosed masks chosen closed (length chosen)
   pub next_out : (id : ℕ) → Has (slice_index masks (length chosen)) id → ¬ Has closed id
 
--- the next card with the cards below n that hold an identity outside the set, and the union of their masks
+-- the next card with the cards below n that hold an identity outside the set, and the union of
+-- their masks
 pub record Gathers (masks chosen : List ℕ) (closed n cards ids : ℕ) : Type 0 where
   pub next : Has cards (length chosen)
   pub taken : (k : ℕ) → k < n → ¬ Has closed (slice_index chosen k) → Has cards k
-  pub only : (k : ℕ) → Has cards k → (k ≡ length chosen) ⊎ ((k < n) × ¬ Has closed (slice_index chosen k))
+  pub only : (k : ℕ) → Has cards k → (k ≡ length chosen)
+      ⊎ ((k < n) × ¬ Has closed (slice_index chosen k))
   pub covers : (k : ℕ) → Has cards k → (id : ℕ) → Has (slice_index masks k) id → Has ids id
   pub covered : (id : ℕ) → Has ids id → (k : ℕ) × Has cards k × Has (slice_index masks k) id
   pub narrow : cards < 2 ^ (length chosen + 1)

@@ -1,4 +1,4 @@
--- What `assign` answers.
+-- What does `assign` answer?
 use Rattle.std.specs.Prelude.{ℕ, List}
 use Rattle.hb_match.specs.declared.Verdict.{Verdict}
 use Rattle.hb_match.specs.declared.Verdict.TheVariants.{Given, Blocked}
@@ -7,4 +7,5 @@ use Rattle.hb_match.specs.Matching.{IsAssignment, NoAssignment, IsObstruction}
 -- an assignment, or an obstruction where there is none
 abbrev pub Decides : List ℕ → List ℕ → Verdict → Type 0
 Decides masks left (Given chosen) = IsAssignment masks left chosen.items
-Decides masks left (Blocked cards ids) = IsObstruction masks left cards ids × NoAssignment masks left
+Decides masks left (Blocked cards ids) =
+    IsObstruction masks left cards ids × NoAssignment masks left

@@ -9,8 +9,9 @@ use hb_sets::{common, meet, with};
 
 /// The set of the identities that the card has in some assignment, from one of them.
 ///
-/// `free` grows to the identities of which the card can have a copy where other cards move: those with a copy left over,
-/// its own, and each that is held by a card which could take one of these instead.
+/// `free` grows to the identities of which the card can have a copy where other cards move: those
+/// with a copy left over, its own, and each that is held by a card which could take one of these
+/// instead.
 pub fn possible_from(masks: &[u64], left: &[u8; IDENTITIES], chosen: &[u8], card: usize) -> u64
     requires given { IsAssignment masks.now left.now chosen.now }
     requires in_range { card < length masks.now }

@@ -1,16 +1,20 @@
 //! Which identities hidden cards can have, where each identity has a number of copies.
 //!
-//! A card comes with its mask, the set of the identities that it may have, and an identity, named by its number, with
-//! the copies of it that are left. An assignment gives each card an identity of its mask and uses no identity more
-//! often than copies of it are left. This crate knows no rule of the game: masks and copies are its caller's.
+//! A card comes with its mask, the set of the identities that it may have, and an identity, named
+//! by its number, with the copies of it that are left. An assignment gives each card an identity of
+//! its mask and uses no identity more often than copies of it are left. This crate knows no rule of
+//! the game: masks and copies are its caller's.
 //!
 //! The contracts promise, in the words of `specs/Matching.antt`:
-//! - `assign` answers an assignment where there is one. Else it answers an obstruction: cards for whose identities fewer
-//!   copies are left than there are cards. This is Hall's condition, with copies.
-//! - `possible` and `possible_all` answer exactly the identities that a card has over all assignments.
+//! - `assign` answers an assignment where there is one. Else it answers an obstruction: cards for
+//!   whose identities fewer copies are left than there are cards. This is Hall's condition, with
+//!   copies.
+//! - `possible` and `possible_all` answer exactly the identities that a card has over all
+//!   assignments.
 //!
-//! A member of a mask from `IDENTITIES` on names no identity. It has no copies, so no assignment uses it.
-//! No call takes memory. No clause bounds the steps of a call; for 25 cards it takes some microseconds.
+//! A member of a mask from `IDENTITIES` on names no identity. It has no copies, so no assignment
+//! uses it. No call takes memory. No clause bounds the steps of a call; for 25 cards it takes some
+//! microseconds.
 #![tactic(auto)]
 
 ghost use Rattle.std.specs.Prelude.{◌≡◌, ℕ, ◌<◌, ◌≤◌, length, slice_index, All, EachIndex};
@@ -36,8 +40,8 @@ pub const MOST_MASKS: usize = 32;
 pub enum Verdict {
     /// An assignment: the identity number of each card, in the order of the masks.
     Given(ArrayVec<u8, MOST_MASKS>),
-    /// There is no assignment, since these cards have `ids` alone among them, of which fewer copies are left than there
-    /// are cards.
+    /// There is no assignment, since these cards have `ids` alone among them, of which fewer copies
+    /// are left than there are cards.
     Blocked {
         /// The cards, by their index in the masks.
         cards: u32,
@@ -46,10 +50,11 @@ pub enum Verdict {
     },
 }
 
-/// Gives each card an identity of its mask and none more often than copies of it are left, or shows some cards that make
-/// this impossible.
+/// Gives each card an identity of its mask and none more often than copies of it are left, or shows
+/// some cards that make this impossible.
 ///
-/// `masks` has a set of identity numbers for each card, and `left` the copies that are left of each identity.
+/// `masks` has a set of identity numbers for each card, and `left` the copies that are left of each
+/// identity.
 pub fn assign(masks: &[u64], left: &[u8; IDENTITIES]) -> Verdict
     requires { length masks.now ≤ MOST_MASKS }
     ensures { Decides masks.now left.now result }
@@ -65,7 +70,8 @@ pub fn assign(masks: &[u64], left: &[u8; IDENTITIES]) -> Verdict
     Verdict::Given(chosen)
 }
 
-/// The set of the identities that the card has in some assignment. It is empty where there is no assignment.
+/// The set of the identities that the card has in some assignment. It is empty where there is no
+/// assignment.
 ///
 /// `card` is an index of `masks`; `masks` and `left` are as in `assign`.
 pub fn possible(masks: &[u64], left: &[u8; IDENTITIES], card: usize) -> u64
@@ -77,16 +83,20 @@ pub fn possible(masks: &[u64], left: &[u8; IDENTITIES], card: usize) -> u64
     possible_by(&assign(masks, left), masks, left, card)
 }
 
-/// For each card, in the order of the masks, the set that `possible` answers. All sets come from one assignment.
+/// For each card, in the order of the masks, the set that `possible` answers. All sets come from
+/// one assignment.
 ///
 /// `masks` and `left` are as in `assign`.
 pub fn possible_all(masks: &[u64], left: &[u8; IDENTITIES]) -> ArrayVec<u64, MOST_MASKS>
     requires { length masks.now ≤ MOST_MASKS }
     ensures len { array_vec_len result ≡ length masks.now }
-    ensures sets { EachIndex masks.now (λ card. IsPossibleSet masks.now left.now card (slice_index result.items card)) }
+    ensures sets { EachIndex masks.now
+        (λ card. IsPossibleSet masks.now left.now card (slice_index result.items card)) }
 
-    // No other number is such a set, so what `possible` answers for a card is the set that stands here.
-    ensures same { EachIndex masks.now (λ card. (set : ℕ) → IsPossibleSet masks.now left.now card set
+    // No other number is such a set, so what `possible` answers for a card is the set that stands
+    // here.
+    ensures same { EachIndex masks.now
+        (λ card. (set : ℕ) → IsPossibleSet masks.now left.now card set
         → slice_index result.items card ≡ set) }
     ensures none { NoAssignment masks.now left.now → All (λ set. set ≡ 0) result.items }
 {

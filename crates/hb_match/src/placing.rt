@@ -1,4 +1,5 @@
-//! Cards placed one after the other: the next card gets an identity, and placed cards move to others where they must.
+//! Cards placed one after the other: the next card gets an identity, and placed cards move to
+//! others where they must.
 
 ghost use Rattle.std.specs.Prelude.{◌≡◌, ℕ, ◌<◌, ◌≤◌, ◌↔◌, length, slice_index, MatchOption, MatchResult};
 ghost use Rattle.arrayvec.specs.ArrayVec.{array_vec_len};
@@ -36,7 +37,8 @@ pub fn spare_ids(left: &[u8; IDENTITIES], chosen: &[u8]) -> u64
     ids
 }
 
-/// A placed card that holds an identity outside `free`, and an identity inside that it could take instead.
+/// A placed card that holds an identity outside `free`, and an identity inside that it could take
+/// instead.
 fn mover(masks: &[u64], chosen: &[u8], free: u64) -> Option<(usize, u8)>
     requires within { length chosen.now ≤ length masks.now }
     requires held { Holds masks.now chosen.now }
@@ -53,17 +55,21 @@ fn mover(masks: &[u64], chosen: &[u8], free: u64) -> Option<(usize, u8)>
     None
 }
 
-/// Places the next card where placed cards can make room for it. This finds an augmenting path from its end: `free` has
-/// the identities of which a copy can be had, and an identity joins it where the card that holds it could move there.
+/// Places the next card where placed cards can make room for it. This finds an augmenting path from
+/// its end: `free` has the identities of which a copy can be had, and an identity joins it where
+/// the card that holds it could move there.
 ///
-/// `Ok(over)` says that of `over`, a member of `free`, one copy more is used, and of no other identity. `Err(closed)`
-/// leaves `chosen` as it was: no placed card can move into the set `closed`, and the next card has no identity in it.
+/// `Ok(over)` says that of `over`, a member of `free`, one copy more is used, and of no other
+/// identity. `Err(closed)` leaves `chosen` as it was: no placed card can move into the set
+/// `closed`, and the next card has no identity in it.
 pub fn place(masks: &[u64], chosen: &mut ArrayVec<u8, MOST_MASKS>, free: u64) -> Result<u8, u64>
     requires within { array_vec_len chosen.old < length masks.now }
     requires room { array_vec_len chosen.old < MOST_MASKS }
     requires held { Holds masks.now chosen.old.items }
-    ensures { MatchResult result (λ over. Places masks.now chosen.old.items chosen.new.items free over)
-        (λ closed. (chosen.new.items ≡ chosen.old.items) × ShutsOut masks.now chosen.old.items free closed) }
+    ensures { MatchResult result
+        (λ over. Places masks.now chosen.old.items chosen.new.items free over)
+        (λ closed. (chosen.new.items ≡ chosen.old.items)
+        × ShutsOut masks.now chosen.old.items free closed) }
 {
     if let Some(id) = common(masks[chosen.len()], free) {
         chosen.push(id);
@@ -81,7 +87,8 @@ pub fn place(masks: &[u64], chosen: &mut ArrayVec<u8, MOST_MASKS>, free: u64) ->
     Ok(to)
 }
 
-/// The next card with the placed cards that hold an identity outside `closed`, and the union of their masks.
+/// The next card with the placed cards that hold an identity outside `closed`, and the union of
+/// their masks.
 pub fn obstruction(masks: &[u64], chosen: &[u8], closed: u64) -> (u32, u64)
     requires within { length chosen.now < length masks.now }
     requires few { length masks.now ≤ MOST_MASKS }

@@ -1,5 +1,6 @@
--- Banks of time, defined on what a timer was made with and the calls that it accepted since, of which
--- a list has the newest first. Times and moments are in milliseconds. The rules are this project's own.
+-- Banks of time, defined on what a timer was made with and the calls that it accepted since, of
+-- which a list has the newest first. Times and moments are in milliseconds. The rules are this
+-- project's own.
 use Rattle.std.specs.Prelude.{◌≡◌, ℕ, zero, suc, ◌+◌, ◌-◌, ◌%◌, ◌≤◌, ◌==◌, ◌↔◌, min, max, Bool, true, false, ◌&&◌, if◌then◌else◌, Option, Some, None, List, [], ◌∷◌}
 use Rattle.std.specs.Option.{ForSome}
 use Rattle.hb_timer.specs.declared.timing.TheConstants.{BANK_LIMIT}
@@ -58,9 +59,11 @@ abbrev pub own_time : Timing → ℕ → List TimerCall → ℕ
 own_time timing turn [] = 0
 own_time timing turn (call ∷ calls) =
     let interval = effective timing (call ∷ calls) - effective timing calls in
-    own_time timing turn calls + (if is_running calls && turn_number calls == turn then interval else 0)
+    own_time timing turn calls
+    + (if is_running calls && turn_number calls == turn then interval else 0)
 
--- the bank of a seat when so many turns have ended: the end of an own turn takes its own time off and adds the gain
+-- the bank of a seat when so many turns have ended: the end of an own turn takes its own time off
+-- and adds the gain
 abbrev pub bank_after : Timing → List TimerCall → ℕ → ℕ → ℕ
 bank_after timing calls seat zero = timing.base
 bank_after timing calls seat (suc turn) =

@@ -1,4 +1,4 @@
--- The calls that a timer accepted, as a list.
+-- Which calls did a timer accept?
 use Rattle.std.specs.Prelude.{List, [], ◌∷◌}
 use Rattle.hb_timer.specs.declared.timing.TimerCall.{TimerCall}
 use Rattle.hb_timer.specs.declared.calls.Newest.{Newest}

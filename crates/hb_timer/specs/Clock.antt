@@ -1,4 +1,4 @@
--- What a clock shows, and how time passes on it.
+-- What does a clock show, and how does time pass on it?
 use Rattle.std.specs.Prelude.{◌≡◌, ℕ, ◌-◌, ◌<◌, ◌==◌, ◌&&◌, max, Bool, true, false, if◌then◌else◌, slice_index}
 use Rattle.hb_timer.specs.declared.timing.TheConstants.{MOST_SEATS}
 use Rattle.hb_timer.specs.declared.clock.Clock.{Clock}
@@ -11,7 +11,8 @@ runs Running = true
 runs Paused = false
 runs Stopped = false
 
--- the bank of a seat at a moment: that of the present turn runs down from the clock's last moment on
+-- the bank of a seat at a moment: that of the present turn runs down from the clock's last moment
+-- on
 abbrev pub bank_at : Clock → ℕ → ℕ → ℕ
 bank_at clock seat moment =
     let bank = slice_index clock.banks seat in

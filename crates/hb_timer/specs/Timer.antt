@@ -1,4 +1,4 @@
--- What contracts see of a timer, and what it keeps between calls.
+-- What do contracts see of a timer, and what does it keep between calls?
 use Rattle.std.specs.Prelude.{◌≡◌, ℕ, ◌<◌, ◌≤◌, if◌then◌else◌, slice_index, List}
 use Rattle.hb_timer.specs.declared.timing.TheConstants.{BANK_LIMIT, MOMENT_LIMIT, MOST_SEATS}
 use Rattle.hb_timer.specs.declared.timing.TimerCall.{TimerCall}
@@ -15,7 +15,8 @@ pub record History : Type 0 where
 
 -- the phase after these calls
 abbrev pub phase_of : List TimerCall → Phase
-phase_of calls = if is_running calls then Running else (if is_stopped calls then Stopped else Paused)
+phase_of calls =
+    if is_running calls then Running else (if is_stopped calls then Stopped else Paused)
 
 -- the numbers are in range, and the clock shows what the calls came to
 pub record IsKept (timing : Timing) (calls : List TimerCall) (clock : Clock) : Type 0 where

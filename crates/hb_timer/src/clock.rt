@@ -40,8 +40,8 @@ impl Clock {
         }
     }
 
-    /// Lets time pass up to a moment, and takes it off a running bank. A moment below `last` counts as
-    /// `last`.
+    /// Lets time pass up to a moment, and takes it off a running bank. A moment below `last` counts
+    /// as `last`.
     pub(crate) fn pass_to(&mut self, moment: u64)
         requires seat { self.old.seat < MOST_SEATS }
         requires in_time { IsTrue (runs self.old.phase)

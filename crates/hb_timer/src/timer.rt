@@ -22,9 +22,9 @@ pub enum TimerState {
 /// The banks of seats that take turns.
 ///
 /// Each call that changes a timer names a moment, in milliseconds and at most [`MOMENT_LIMIT`]. One
-/// below an earlier moment counts as that one, so time never runs backwards. Which calls a timer takes
-/// depends on its state and, while time runs, on its deadline: a caller that does not know these asks
-/// [`Timer::state`] and [`Timer::deadline`] first.
+/// below an earlier moment counts as that one, so time never runs backwards. Which calls a timer
+/// takes depends on its state and, while time runs, on its deadline: a caller that does not know
+/// these asks [`Timer::state`] and [`Timer::deadline`] first.
 #[derive(Drop)]
 pub struct Timer {
     timing: Timing,
@@ -45,9 +45,9 @@ impl Model for Timer {
 impl Timer {
     /// A timer in which the turn of the seat `first` runs from a moment on.
     ///
-    /// The bank of each seat is `base_ms`, and the end of a turn adds `per_turn_ms` to its seat's bank.
-    /// Both are in milliseconds and at most [`BANK_LIMIT`]. There are 2 to [`MOST_SEATS`] seats, and
-    /// `first` is one of them.
+    /// The bank of each seat is `base_ms`, and the end of a turn adds `per_turn_ms` to its seat's
+    /// bank. Both are in milliseconds and at most [`BANK_LIMIT`]. There are 2 to [`MOST_SEATS`]
+    /// seats, and `first` is one of them.
     pub fn new(base_ms: u64, per_turn_ms: u64, seats: u8, first: u8, moment: u64) -> Self
         requires base { base_ms ≤ BANK_LIMIT }
         requires gain { per_turn_ms ≤ BANK_LIMIT }
@@ -56,7 +56,13 @@ impl Timer {
         requires first { first < seats }
         requires in_range { moment ≤ MOMENT_LIMIT }
         ensures timing { result.timing
-            ≡ record { base = base_ms; per_turn = per_turn_ms; seats = seats; first = first; start = moment } }
+            ≡ record {
+              base = base_ms;
+              per_turn = per_turn_ms;
+              seats = seats;
+              first = first;
+              start = moment;
+            } }
         ensures calls { result.calls ≡ [] }
     {
         Timer {
@@ -90,7 +96,8 @@ impl Timer {
 
     /// The bank of a seat at a moment, in milliseconds and at most [`BANK_LIMIT`].
     ///
-    /// A moment below the greatest one accepted so far counts as that one. A bank that is used up is 0.
+    /// A moment below the greatest one accepted so far counts as that one. A bank that is used up
+    /// is 0.
     #[tactic(auto, using(crate::proofs::Kept::bank_at_within))]
     pub fn bank(&self, seat: u8, moment: u64) -> u64
         requires { seat < self.now.timing.seats }
@@ -100,7 +107,8 @@ impl Timer {
         self.clock.bank_at(seat, moment)
     }
 
-    /// The moment at which the running bank is used up, or `None` exactly while time is paused or stopped.
+    /// The moment at which the running bank is used up, or `None` exactly while time is paused or
+    /// stopped.
     ///
     /// From this moment on the running bank is 0, and before it more than 0.
     #[tactic(auto, using(crate::proofs::Kept::bank_at_within))]
@@ -117,14 +125,17 @@ impl Timer {
         }
     }
 
-    /// Ends the turn: the bank of its seat gains, up to [`BANK_LIMIT`], and the next seat's turn begins.
+    /// Ends the turn: the bank of its seat gains, up to [`BANK_LIMIT`], and the next seat's turn
+    /// begins.
     ///
-    /// Time runs, and the moment is not past the deadline. At the deadline the bank is 0 before it gains.
+    /// Time runs, and the moment is not past the deadline. At the deadline the bank is 0 before it
+    /// gains.
     pub fn turn_ends(&mut self, moment: u64)
         requires running { IsTrue (is_running self.old.calls) }
         requires on_time { IsOnTime self.old.timing self.old.calls moment }
         requires in_range { moment ≤ MOMENT_LIMIT }
-        ensures { self.new ≡ record self.old { calls = TimerCall.TurnEnds moment ∷ self.old.calls } }
+        ensures { self.new
+            ≡ record self.old { calls = TimerCall.TurnEnds moment ∷ self.old.calls } }
     {
         self.clock.pass_to(moment);
         let seat = usize::from(self.clock.seat);

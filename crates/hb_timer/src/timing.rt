@@ -16,8 +16,8 @@ pub struct Timing {
     pub base: u64,
     /// What the bank of a seat gains at the end of each of its turns, at most [`BANK_LIMIT`].
     pub per_turn: u64,
-    /// How many seats take turns, from 2 to [`MOST_SEATS`]. They are numbered from 0, and turns go round
-    /// by number.
+    /// How many seats take turns, from 2 to [`MOST_SEATS`]. They are numbered from 0, and turns go
+    /// round by number.
     pub seats: u8,
     /// The seat that has the first turn.
     pub first: u8,
@@ -25,7 +25,8 @@ pub struct Timing {
     pub start: u64,
 }
 
-/// A call that a timer accepted, with the moment that it named, in milliseconds. Contracts list them.
+/// A call that a timer accepted, with the moment that it named, in milliseconds. Contracts list
+/// them.
 #[derive(Clone, Copy, Debug, PartialEq, Eq)]
 pub enum TimerCall {
     /// The turn ended, and the next seat's turn began.

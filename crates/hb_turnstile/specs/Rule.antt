@@ -1,6 +1,7 @@
--- What holds of a turnstile's table between any two atomic steps, and what each step tells the pass that takes it.
--- Word 0 is the ticket that is given next, word 1 the ticket that is served. The one slot has the machine, and is out with the
--- pass that has found its turn, if there is one. The number of a pass is that of its seat.
+-- What holds of a turnstile's table between any two atomic steps, and what each step tells the pass
+-- that takes it. Word 0 is the ticket that is given next, word 1 the ticket that is served. The one
+-- slot has the machine, and is out with the pass that has found its turn, if there is one. The
+-- number of a pass is that of its seat.
 use Rattle.std.specs.Prelude.{◌≡◌, ◌≢◌, ℕ, ◌<◌, ◌≤◌, Bool, true, false, List, [], ◌∷◌, ◌++◌, length, Option, Some}
 use mathlib.Core.Option.{some}
 use mathlib.Core.List.{IsPrefix}
@@ -71,8 +72,8 @@ module _ {C R : Type 0} where
   abbrev pub met : View C R → View C R
   met v = record v { seen = longer v.seen v.joined; joined = [] }
 
--- What stands between two steps: both words, the calls that were handed on, whether a pass has found its turn and the number of
--- that pass, and the number of the pass that drew each ticket
+-- What stands between two steps: both words, the calls that were handed on, whether a pass has
+-- found its turn and the number of that pass, and the number of the pass that drew each ticket
 pub record Now (C R : Type 0) : Type 0 where
   pub ticket : ℕ
   pub serving : ℕ
@@ -87,8 +88,8 @@ module _ {C R : Type 0} (now : Now C R) (seat number : ℕ) (seen : List (Entry 
   abbrev pub SeesOwn : Type 0
   SeesOwn = (number ≡ seat) × (calls_by seat now.history ≡ calls_by seat seen)
 
-  -- What holds at each stage. Who waits for a ticket is the pass that drew it, so no two wait for one. Who is inside has seen the
-  -- whole history
+  -- What holds at each stage. Who waits for a ticket is the pass that drew it, so no two wait for
+  -- one. Who is inside has seen the whole history
   abbrev pub FitsStage : Stage → Type 0
   FitsStage Spent = Unit {0}
   FitsStage New = (number ≢ seat) × (calls_by seat now.history ≡ [])
@@ -100,7 +101,8 @@ module _ {C R : Type 0} (now : Now C R) (seat number : ℕ) (seen : List (Entry 
       SeesOwn × (t ≡ now.serving) × (now.busy ≡ true) × (now.inside ≡ seat)
       × (seen ≡ now.history)
 
--- What holds of the pass at a seat. What it has seen begins the history, and it has the mark worn only if all tickets were given
+-- What holds of the pass at a seat. What it has seen begins the history, and it has the mark worn
+-- only if all tickets were given
 pub record Fits {C R : Type 0} (now : Now C R) (seat : ℕ) (v : View C R) : Type 0 where
   pub seen : IsPrefix v.seen now.history
   pub joined : IsPrefix v.joined now.history
@@ -108,8 +110,9 @@ pub record Fits {C R : Type 0} (now : Now C R) (seat : ℕ) (v : View C R) : Typ
   pub stage : FitsStage now seat v.number v.seen v.stage
 
 module _ {M C R : Type 0} (turns : M → C → R → M → Type 0) (start : M) where
-  -- What holds of the table between two steps. Where no pass has found its turn, the slot has the machine as the history leaves it.
-  -- The history is legal, and has as many calls as tickets were served. A seat that is still to come has made no calls.
+  -- What holds of the table between two steps. Where no pass has found its turn, the slot has the
+  -- machine as the history leaves it. The history is legal, and has as many calls as tickets were
+  -- served. A seat that is still to come has made no calls.
   pub record IsConsistent (s : State (Option M) (View C R)) : Type 0 where
     pub now : Now C R
     pub words : s.words ≡ now.ticket ∷ now.serving ∷ []
@@ -124,11 +127,16 @@ module _ {M C R : Type 0} (turns : M → C → R → M → Type 0) (start : M) w
     pub seats : (j : ℕ) (v : View C R) → get_elem? s.views j ≡ some v → Fits now j v
     pub others : (j : ℕ) → length s.views ≤ j → calls_by j now.history ≡ []
 
-  -- The turn was found: the history so far was seen, which has no further call of the pass, and the machine is taken as it leaves it
+  -- The turn was found: the history so far was seen, which has no further call of the pass, and the
+  -- machine is taken as it leaves it
   abbrev pub Finds : PassSeat M C R → PassSeat M C R → Type 0
   Finds m after =
       (others : List (Entry C R)) × (machine : M)
-      × (after ≡ (with_seen (Inside (ticket_of m.0.stage)) (m.0.seen ++ others) m.0, (0, Some machine) ∷ m.1))
+      × (after ≡ (
+        with_seen (Inside (ticket_of m.0.stage)) (m.0.seen ++ others) m.0,
+        (0, Some machine)
+            ∷ m.1,
+      ))
       × (calls_by m.0.number others ≡ [])
       × Leads turns start (m.0.seen ++ others) machine
 
@@ -144,7 +152,8 @@ module _ {M C R : Type 0} (turns : M → C → R → M → Type 0) (start : M) w
       (t : ℕ) × (machine : M) × (m.0.stage ≡ Inside t) × (m.1 ≡ (0, Some machine) ∷ [])
       × Leads turns start (m.0.seen ++ entry m.0.number c r ∷ []) machine
 
-  -- the pass has seen the longer of the two histories, both of which begin it; it is legal, and has no further call of the pass
+  -- the pass has seen the longer of the two histories, both of which begin it; it is legal, and has
+  -- no further call of the pass
   abbrev pub Meets : PassSeat M C R → PassSeat M C R → Type 0
   Meets m after =
       (after ≡ (met m.0, m.1))
@@ -154,7 +163,8 @@ module _ {M C R : Type 0} (turns : M → C → R → M → Type 0) (start : M) w
 
 -- What the steps tell: of a step, the seat before, the number found, and the seat after
 module _ {M C R : Type 0} (turns : M → C → R → M → Type 0) (start : Option M) where
-  -- a load of the serving word by a pass that waits: where its ticket is served, the turn is its own
+  -- a load of the serving word by a pass that waits: where its ticket is served, the turn is its
+  -- own
   abbrev pub Looks : Step (Option M) → PassSeat M C R → ℕ → PassSeat M C R → Type 0
   Looks st m n after =
       (n ≡ ticket_of m.0.stage → (first : M) → start ≡ Some first → Finds turns first m after)
@@ -183,7 +193,8 @@ module _ {M C R : Type 0} where
       (number : ℕ) × (after ≡ (with_number number m.0, m.1)) × (number ≢ m.0.number)
       × (calls_by number m.0.seen ≡ [])
 
-  -- a load of the ticket word: where all tickets were given the pass is marked, and a pass with the mark finds it so again
+  -- a load of the ticket word: where all tickets were given the pass is marked, and a pass with the
+  -- mark finds it so again
   abbrev pub SeesTicket : Step (Option M) → PassSeat M C R → ℕ → PassSeat M C R → Type 0
   SeesTicket st m n after =
       (MOST_TICKETS ≤ n → IsMarked m after) × (n < MOST_TICKETS → after ≡ m)
@@ -194,7 +205,8 @@ module _ {M C R : Type 0} where
   Draws st m n after = (n ≡ st.first → HasDrawn n m after) × (n ≢ st.first → after ≡ m)
 
   -- the hand on of the call and the reply that were told
-  abbrev pub HandsOn : Option (C × R) → Step (Option M) → PassSeat M C R → ℕ → PassSeat M C R → Type 0
+  abbrev pub HandsOn : Option (C × R) → Step (Option M) → PassSeat M C R → ℕ → PassSeat M C R
+      → Type 0
   HandsOn told st m n after = (c : C) (r : R) → told ≡ Some (c, r) → HasHandedOn m c r after
 
   -- the load by which a new pass gets its number

@@ -8,7 +8,8 @@ pub trait Machine: Drop {
     /// What it answers. Where a turn needs memory, the want of it is one of the replies.
     type Reply;
 
-    // What one turn may do: of the machine before it, the call, the reply, and the machine after it.
+    // What one turn may do: of the machine before it, the call, the reply, and the machine after
+    // it.
     ghost turns: { Self → Self.Call → Self.Reply → Self → Type 0 };
 
     /// Takes one turn: answers the call, and changes the state as `turns` says.

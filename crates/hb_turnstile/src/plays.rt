@@ -1,4 +1,5 @@
-//! What each atomic step tells the pass that takes it. The types here name facts for the proofs, and have no values.
+//! What each atomic step tells the pass that takes it. The types here name facts for the proofs,
+//! and have no values.
 
 ghost use Rattle.std.specs.Prelude.{Option, None};
 ghost use Rattle.hb_turnstile.specs.Rule.{SeesTicket, Draws, Looks, HandsOn, TakesNumber, SeesJoined, newcomer, informed, spent};
@@ -9,7 +10,8 @@ use atomic_table::{Join, Play, Split, TableRule};
 use std::marker::{Brand, PhantomData};
 use std::snapshot::Snapshot;
 
-/// The rule of a turnstile's table, which holds between any two steps. It is told the machine at the start.
+/// The rule of a turnstile's table, which holds between any two steps. It is told the machine at
+/// the start.
 pub(crate) struct TurnstileRule<M> {
     machine: PhantomData<M>,
 }
@@ -40,8 +42,8 @@ impl<M: Machine> Play<Option<M>, View<M::Call, M::Reply>> for Draw<M> {
     ghost then = { Draws };
 }
 
-/// The machine that a turnstile began with. A play is told neither the key of the table nor an argument, so the proof
-/// of each call picks the machine.
+/// The machine that a turnstile began with. A play is told neither the key of the table nor an
+/// argument, so the proof of each call picks the machine.
 pub(crate) trait Start<M> {
     ghost start: { Option M };
 }

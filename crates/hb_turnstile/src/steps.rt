@@ -79,7 +79,8 @@ pub(crate) fn wait_for<M: Machine, W: Wait, N: Start<M>>(
         if served == ticket {
             return;
         }
-        // The sleep sees the low 32 bits alone: a pass could miss its turn only behind 2^32 others that wait.
+        // The sleep sees the low 32 bits alone: a pass could miss its turn only behind 2^32 others
+        // that wait.
         table.park(rt, SERVING, (served % (1 << 32)) as u32);
     }
     unreachable!()
@@ -106,7 +107,8 @@ pub(crate) fn serve<M: Machine>(
     reply
 }
 
-/// Serves the next ticket, and wakes those who wait. The call and its reply are for the proof alone.
+/// Serves the next ticket, and wakes those who wait. The call and its reply are for the proof
+/// alone.
 fn hand_on<M: Machine, N: Told<M::Call, M::Reply>>(
     table: &SharedTable<M>,
     seat: &mut PassSeat<M>,

@@ -16,7 +16,8 @@ use std::sync::Wait;
 /// How many tickets a turnstile gives. The tickets are the numbers below this.
 pub const MOST_TICKETS: u64 = 1 << 62;
 
-/// Why a call was refused: all [`MOST_TICKETS`] tickets were given. Each later call by this pass is refused too.
+/// Why a call was refused: all [`MOST_TICKETS`] tickets were given. Each later call by this pass is
+/// refused too.
 #[derive(Clone, Copy, Debug, PartialEq, Eq)]
 pub struct Worn;
 
@@ -38,15 +39,19 @@ impl<M: Machine> Model for Turnstile<M> {
 
     ghost Value = { Guarded M };
 
-    ghost view = { λ t. record { table = t.table.shared.table_id; start = t.table.shared.key.value } };
+    ghost view = { λ t. record {
+      table = t.table.shared.table_id;
+      start = t.table.shared.key.value;
+    } };
 
     ghost invariant = { λ t. t.table.shared.table_id.words ≡ 2 };
 }
 
-/// The right to call a turnstile, one call at a time. It takes no bytes, and may go to another thread.
+/// The right to call a turnstile, one call at a time. It takes no bytes, and may go to another
+/// thread.
 ///
-/// In contracts it is what its holder knows: its table, its number, the history that it has seen, and whether it has
-/// the mark worn.
+/// In contracts it is what its holder knows: its table, its number, the history that it has seen,
+/// and whether it has the mark worn.
 #[derive(Drop)]
 pub struct Pass<M: Machine> {
     seat: Seat<Option<M>, View<M::Call, M::Reply>>,
@@ -86,9 +91,10 @@ impl<M: Machine> Turnstile<M> {
 
     /// Calls the machine, once every ticket that was drawn before has been served.
     ///
-    /// The reply is the machine's at the call's place in the one history, which is then at the end of what the pass has
-    /// seen. The error is `Worn`, exactly where this call found that all [`MOST_TICKETS`] tickets were given: the
-    /// machine is not called then, and the pass has the mark worn, which is never taken off.
+    /// The reply is the machine's at the call's place in the one history, which is then at the end
+    /// of what the pass has seen. The error is `Worn`, exactly where this call found that all
+    /// [`MOST_TICKETS`] tickets were given: the machine is not called then, and the pass has the
+    /// mark worn, which is never taken off.
     pub fn call<W: Wait>(
         &self,
         rt: &W,
@@ -96,7 +102,8 @@ impl<M: Machine> Turnstile<M> {
         call: &M::Call,
     ) -> Result<M::Reply, Worn>
         requires { pass.old.table ≡ self.now.table }
-        ensures place { IfOk result (λ r. Calls M.turns self.now.start pass.old call.now r pass.new) }
+        ensures place { IfOk result
+            (λ r. Calls M.turns self.now.start pass.old call.now r pass.new) }
         ensures unmarked { IfOk result (λ _. pass.old.worn ≡ false) }
         ensures worn { IfErr result (λ _. pass.new ≡ with_mark pass.old) }
     {
@@ -108,10 +115,11 @@ impl<M: Machine> Turnstile<M> {
         Ok(serve(table, &mut pass.seat, call))
     }
 
-    /// A further pass, which has seen what this one has, and has made no calls. It has the mark worn where this one has.
+    /// A further pass, which has seen what this one has, and has made no calls. It has the mark
+    /// worn where this one has.
     ///
-    /// The pass that is split stays as it was, also where the answer is `NoMemory`. A pass takes no bytes, so this body
-    /// never gives that answer.
+    /// The pass that is split stays as it was, also where the answer is `NoMemory`. A pass takes no
+    /// bytes, so this body never gives that answer.
     pub fn split(&self, pass: &mut Pass<M>) -> Result<Pass<M>, NoMemory>
         requires { pass.old.table ≡ self.now.table }
         ensures same { pass.new ≡ pass.old }
@@ -123,8 +131,8 @@ impl<M: Machine> Turnstile<M> {
         Ok(Pass { seat })
     }
 
-    /// Takes another pass in. The pass that stays has then seen what either had: the longer of the two lists. Its number,
-    /// its own calls and its mark are as before.
+    /// Takes another pass in. The pass that stays has then seen what either had: the longer of the
+    /// two lists. Its number, its own calls and its mark are as before.
     pub fn join(&self, pass: &mut Pass<M>, other: Pass<M>)
         requires pass { pass.old.table ≡ self.now.table }
         requires other { other.table ≡ self.now.table }

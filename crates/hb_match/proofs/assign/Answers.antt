@@ -3,7 +3,7 @@ use Rattle.hb_sets.specs.Sets.{Has}
 use Rattle.hb_match.specs.Matching.{uses, IsObstruction}
 use Rattle.hb_match.specs.Placing.{Gathers, Places}
 use Rattle.hb_match.proofs.Uses.{uses-nil}
-use Rattle.hb_match.proofs.Copies.{enough_more}
+use Rattle.hb_match.proofs.CopiesLeft.{enough_more}
 use Rattle.hb_match.proofs.Hall.{blocked, excluded}
 use Rattle.hb_match.proofs.assign.Goals as goal
 

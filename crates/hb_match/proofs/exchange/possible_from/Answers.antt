@@ -1,5 +1,5 @@
 use Rattle.std.proofs.Common.{arith, rules}
-use Rattle.hb_match.proofs.Copies.{chosen-lt}
+use Rattle.hb_match.proofs.CopiesLeft.{chosen-lt}
 use Rattle.hb_match.proofs.Growth.{grows_start, grows_past, grows_more}
 use Rattle.hb_match.proofs.Reach.{met_possible}
 use Rattle.hb_match.proofs.exchange.possible_from.Goals as goal

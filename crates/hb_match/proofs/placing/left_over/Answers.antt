@@ -1,7 +1,7 @@
 use Rattle.std.proofs.Common.{◌≡◌, ◌+◌, [], get_or, arith}
 use Rattle.hb_match.specs.Matching.{uses}
 use Rattle.hb_match.proofs.Uses.{uses-nil}
-use Rattle.hb_match.proofs.Copies.{chosen-lt, over-pos, over_less}
+use Rattle.hb_match.proofs.CopiesLeft.{chosen-lt, over-pos, over_less}
 use Rattle.hb_match.proofs.placing.left_over.Goals as goal
 
 pub loop-id-init : goal.loop-id-init
