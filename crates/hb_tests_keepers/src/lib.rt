@@ -1,0 +1,9 @@
+//! Do the keepers answer as the worked calls say, and both alike?
+#![tactic(auto)]
+
+#[cfg(test)]
+mod alike;
+#[cfg(test)]
+mod games;
+#[cfg(test)]
+mod worked;
