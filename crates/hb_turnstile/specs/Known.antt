@@ -1,5 +1,5 @@
 -- What are a turnstile and a pass to those who use them, and what do a call, a split and a join do
--- to a pass? a pass.
+-- to a pass?
 use Rattle.std.specs.Prelude.{◌≡◌, ◌≢◌, ℕ, Bool, true, false, if◌then◌else◌, nat_lt, List, [], ◌∷◌, ◌++◌, length}
 use mathlib.Core.List.{IsPrefix}
 use Rattle.atomic_table.specs.Seated.{TableId}
