@@ -4,6 +4,8 @@
 #[cfg(test)]
 mod alike;
 #[cfg(test)]
+mod files;
+#[cfg(test)]
 mod games;
 #[cfg(test)]
 mod worked;
