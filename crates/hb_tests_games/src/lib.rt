@@ -1,5 +1,5 @@
-//! Tests of games by their calls: cards and clues, acts and events, identity sets, reviews, each
-//! with values from outside the program, and the callers that the heads of crates show.
+//! Tests of games by their calls: cards and clues, acts, identity sets, reviews, each with values
+//! from outside the program, and the caller that the head of hb_turns shows.
 #![tactic(auto)]
 
 #[cfg(test)]

@@ -1,12 +1,9 @@
-//! How does a game stand after worked acts, which rule refuses an act, and what is told of it?
+//! How does a game stand after worked acts, and which rule refuses an act?
 //!
 //! A deck is written as a text, card by card: the letter `a` to `f` of the suit's index, and the
 //! rank.
 
-use hb_rules::{
-    Act, Action, Clue, EndHow, Event, Identity, Kind, Options, Rule, Special, Suit, Variant,
-};
-use hb_sight::{ActEvents, Blind, dealt_event, event_at, event_count, events_before, next_events};
+use hb_rules::{Act, Action, Clue, EndHow, Identity, Kind, Options, Rule, Special, Suit, Variant};
 use hb_touch::offers;
 use hb_turns::Game;
 use std::test::Fail;
@@ -271,139 +268,5 @@ fn ends(rt: HostRuntime) -> Result<(), Fail> {
     )?;
     assert_eq!(rt; (game.strikes(), game.stack(0)), (3, 1));
     assert_eq!(rt; (game.ended(), game.score()), (Some(EndHow::Strikeout), 0));
-    Ok(())
-}
-
-/// The lines of all events of a game, by one pass over its acts.
-fn lines(rt: &HostRuntime, game: &Game, blind: Blind) -> Result<Vec<String>, Fail> {
-    let alloc = rt.alloc();
-    let mut lines = Vec::new(alloc);
-    for order in 0..game.dealt() {
-        lines.push(line(rt, blind.blank(dealt_event(game, order)))?)?;
-    }
-    let mut now = game.prefix(0);
-    for i in 0..game.act_count() {
-        let ActEvents {
-            act,
-            draw,
-            end,
-            deck,
-        } = next_events(&mut now, game.act_at(i));
-        push(rt, &mut lines, blind, act)?;
-        push(rt, &mut lines, blind, draw)?;
-        push(rt, &mut lines, blind, end)?;
-        push(rt, &mut lines, blind, deck)?;
-    }
-    Ok(lines)
-}
-
-/// Appends the line of an event, where there is one.
-fn push(
-    rt: &HostRuntime,
-    lines: &mut Vec<String>,
-    blind: Blind,
-    event: Option<Event>,
-) -> Result<(), Fail> {
-    match event {
-        Some(event) => Ok(lines.push(line(rt, blind.blank(event))?)?),
-        None => Ok(()),
-    }
-}
-
-/// An event in one line, without the names of its fields.
-fn line(rt: &HostRuntime, event: Event) -> Result<String, Fail> {
-    let alloc = rt.alloc();
-    Ok(match event {
-        Event::Drawn { seat, order, id } => format!(in alloc;
-            "draw {seat} {order} {}",
-            card(rt, id)?
-        )?,
-        Event::Played {
-            seat,
-            order,
-            id,
-            fits,
-        } => format!(in alloc; "play {seat} {order} {} {fits}", card(rt, Some(id))?)?,
-        Event::Discarded { seat, order, id } => {
-            format!(in alloc; "discard {seat} {order} {}", card(rt, Some(id))?)?
-        }
-        Event::Clued {
-            from,
-            to,
-            clue,
-            touched,
-        } => format!(in alloc; "clue {from} {to} {clue:?} {touched:b}")?,
-        Event::Ended { how, by, score } => format!(in alloc; "end {how:?} {by:?} {score}")?,
-        Event::Deck { cards } => format!(in alloc; "deck {}", cards.len())?,
-    })
-}
-
-fn card(rt: &HostRuntime, id: Option<Identity>) -> Result<String, Fail> {
-    let alloc = rt.alloc();
-    Ok(match id {
-        Some(id) => format!(in alloc; "{} {}", id.suit, id.rank)?,
-        None => format!(in alloc; "hidden")?,
-    })
-}
-
-#[test]
-fn tells_a_blind_set_its_observation(rt: HostRuntime) -> Result<(), Fail> {
-    let acts = [play(0), color(0, 0), discard(10)];
-    let game = played(&rt, no_variant(), Options::default(), 2, FIVE_SUITS, &acts)?;
-    let blind = Blind::none().with(0);
-    let want = [
-        "draw 0 0 hidden",
-        "draw 0 1 hidden",
-        "draw 0 2 hidden",
-        "draw 0 3 hidden",
-        "draw 0 4 hidden",
-        "draw 1 5 0 3",
-        "draw 1 6 0 3",
-        "draw 1 7 0 4",
-        "draw 1 8 0 4",
-        "draw 1 9 0 5",
-        "play 0 0 0 1 true",
-        "draw 0 10 hidden",
-        "clue 1 0 Color(0) 11110",
-        "discard 0 10 1 1",
-        "draw 0 11 hidden",
-    ];
-    let lines = lines(&rt, &game, blind)?;
-    assert_eq!(rt; (lines.len(), event_count(&game)), (15, 15));
-    for (k, (got, want)) in lines.iter().zip(want.iter()).enumerate() {
-        assert_eq!(rt; got.as_str(), *want);
-        let Some(event) = event_at(&game, k as u16, blind) else {
-            panic!(rt; "no event {k}")
-        };
-        assert_eq!(rt; line(&rt, event)?.as_str(), *want);
-    }
-    assert!(rt; event_at(&game, 15, blind).is_none());
-    assert_eq!(rt; game.act_count(), 3);
-    for (acts, want) in [(0, 10), (1, 12), (2, 13), (3, 15)] {
-        assert_eq!(rt; events_before(&game, acts), want);
-    }
-    assert!(rt; blind.has(0) && !blind.has(1) && !Blind::all(0).has(0));
-    assert!(rt; Blind::all(5).has(4) && !Blind::all(5).has(5));
-    Ok(())
-}
-
-#[test]
-fn tells_of_a_called_end(rt: HostRuntime) -> Result<(), Fail> {
-    let none: &[Action] = &[];
-    let mut game = played(&rt, no_variant(), Options::default(), 2, FIVE_SUITS, none)?;
-    game.act(1, end(EndHow::Timeout))?;
-    assert_eq!(rt; (game.ended(), game.score()), (Some(EndHow::Timeout), 0));
-    let told = lines(&rt, &game, Blind::all(2))?;
-    assert_eq!(rt; told.len(), 12);
-    assert_eq!(rt; told[10].as_str(), "end Timeout Some(1) 0");
-    assert_eq!(rt; told[11].as_str(), "deck 50");
-
-    let acts = [rank(1, 3), rank(0, 3)];
-    let pink = played(&rt, pink_ones(), Options::default(), 2, FIVE_SUITS, &acts)?;
-    let told = lines(&rt, &pink, Blind::none())?;
-    assert_eq!(rt;
-        told.last().map(|line| line.as_str()),
-        Some("clue 1 0 Rank(3) 111")
-    );
     Ok(())
 }

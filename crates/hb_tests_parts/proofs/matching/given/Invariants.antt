@@ -1,5 +1,5 @@
 use Rattle.std.proofs.Common.{◌≡◌, length}
-use Rattle.hb_rows_parts.proofs.matching.given.Given as goal
+use Rattle.hb_tests_parts.proofs.matching.given.Given as goal
 
 abbrev pub invariant-loop-id : goal.invariant-loop-id
 invariant-loop-id l = length l.chosen.items ≡ l.id-index
