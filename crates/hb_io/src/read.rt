@@ -10,7 +10,7 @@ use std::error::Error;
 use std::fmt;
 
 /// The most bytes that one read asks for.
-const READ_LEN: usize = 4096;
+const READ_LEN: usize = 65_536;
 
 /// Why not all could be read.
 #[derive(Clone, Copy, Debug, PartialEq, Eq, Hash)]
