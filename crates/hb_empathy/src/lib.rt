@@ -10,18 +10,20 @@
 //!   other order. The set holds the card's own identity, so it is never empty. A card that the
 //!   blind set sees has its one identity, and so has every card after the end, when the whole deck
 //!   is shown.
-//! - `hand_sets` answers the same for each card of a hand.
+//! - `hand_sets` answers the same for each card of a hand. Bit `n` of a set stands for the identity
+//!   with number `n`.
 //! - `deals_are_choices` is a law: while the game runs, the decks that give an observation are the
 //!   ways to choose identities for the hidden cards that meet each card's clues and use no identity
 //!   beyond its copies.
 //!
 //! ```
-//! let blind = Blind::none().with(1); // seat 1, which does not see its own cards
-//! for (order, set) in hand_sets(&game, blind, 1).as_slice() {
-//!     // The card with this order can be the identity with number n if bit n of the set is 1.
-//!     let possible = set.count_ones();
+//! /// How many cards of its own hand seat 1 can name.
+//! fn named_cards(game: &Game) -> usize {
+//!     let blind = Blind::none().with(1); // seat 1 does not see its own cards
+//!     let sets = hand_sets(game, blind, 1);
+//!     let cards = sets.as_slice().iter();
+//!     cards.filter(|(_, set)| set.count_ones() == 1).count()
 //! }
-//! let first = identities(&game, blind, 0); // seat 0 holds order 0, so this set has one identity
 //! ```
 //!
 //! No contract except that of the law speaks of clues or copies. The code goes by the law: it takes

@@ -1,5 +1,5 @@
-//! Tests of games by their calls: cards and clues, acts, identity sets, reviews, each with values
-//! from outside the program, and the caller that the head of hb_turns shows.
+//! Tests of games by their calls: cards and clues, acts, events, identity sets, reviews, each with
+//! values from outside the program, and the callers that the heads of crates show.
 #![tactic(auto)]
 
 #[cfg(test)]
@@ -8,6 +8,10 @@ mod callers;
 mod cards;
 #[cfg(test)]
 mod empathy;
+#[cfg(test)]
+mod events;
+#[cfg(test)]
+mod games;
 #[cfg(test)]
 mod review;
 #[cfg(test)]

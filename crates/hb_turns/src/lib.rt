@@ -12,11 +12,12 @@
 //! No call takes memory. A game has room for every act that can still be legal.
 //!
 //! ```
-//! fn first_card(variant: &Variant, deck: &[Identity]) -> Option<u8> {
+//! /// The score after seat 0 has clued the 1s of seat 1, and seat 1 has played its oldest card.
+//! fn first_score(variant: &Variant, deck: &[Identity]) -> Option<u8> {
 //!     let mut game = Game::start(variant, &Options::default(), 2, deck).ok()?;
-//!     game.act(0, Action::Clue { to: 1, clue: Clue::Rank(3) }).ok()?;
-//!     game.act(1, Action::Clue { to: 0, clue: Clue::Rank(1) }).ok()?;
-//!     game.act(0, Action::Play { order: 0 }).ok()?;
+//!     let clue = Clue::Rank(1);
+//!     game.act(0, Action::Clue { to: 1, clue }).ok()?;
+//!     game.act(1, Action::Play { order: 5 }).ok()?;
 //!     Some(game.score())
 //! }
 //! ```

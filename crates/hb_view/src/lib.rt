@@ -9,11 +9,15 @@
 //! the player sees.
 //!
 //! ```
-//! let blind = Blind::none().with(0); // seat 0's view
-//! let mut out = Bytes::new(alloc);
-//! push_game(&mut out, alloc, "No Variant", game.options(), names)?;
-//! push_events(&mut out, alloc, blind, &game)?;
-//! push_standing(&mut out, alloc, blind, &game.prefix(3))?; // as it stood after three acts
+//! /// What seat 0 is written of a game: its first line, its events, and how it stands now.
+//! fn written(alloc: Global, game: &Game, players: &[Text]) -> Result<Bytes, AllocError> {
+//!     let blind = Blind::none().with(0); // seat 0 does not see its own cards
+//!     let mut out = Bytes::new(alloc);
+//!     push_game(&mut out, alloc, "No Variant", game.options(), players)?;
+//!     push_events(&mut out, alloc, blind, game)?;
+//!     push_standing(&mut out, alloc, blind, game)?;
+//!     Ok(out)
+//! }
 //! ```
 //!
 //! Each text is a function of what the viewer has `observed`: no definition that it stands on has
