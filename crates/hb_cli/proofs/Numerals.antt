@@ -8,16 +8,16 @@ use Rattle.std.proofs.lemmas.Fmt.{decimal-digits_value, decimal_digit, first_dec
 use Rattle.std.proofs.lemmas.Str.Parse.{IsNumeralModel, numerals_by_value, tells_digits, parse_plain}
 use Rattle.hb_cli.specs.Unpadded.{IsUnpadded}
 
-own : IsNumeralModel (AllDigits 10) (digits_value 10)
-own = numerals_by_value (AllDigits 10) tells_digits
+digits-model : IsNumeralModel (AllDigits 10) (digits_value 10)
+digits-model = numerals_by_value (AllDigits 10) tells_digits
 
 -- the number that `parse` reads, without a plus and leading zeros, is written so
 pub decimal-parse : (bs : List ℕ) (n : ℕ) → ParsesUnsigned {E = ℕ} 8 10 bs (Ok n) → IsUnpadded bs → bs ≡ decimal n
-decimal-parse bs n parses plain = pick (parse_plain own {E = ℕ} 8 bs (Ok n) parses plain.0)
+decimal-parse bs n parses plain = pick (parse_plain digits-model {E = ℕ} 8 bs (Ok n) parses plain.0)
   where
     pick : OkIff {E = ℕ} (Ok n) (AllDigits 10 bs × (0 < length bs) × (digits_value 10 bs < 2 ^ 8)) (digits_value 10 bs) → bs ≡ decimal n
     pick ((digits, some, small), value) =
-        sym (decimal-digits_value own bs digits some plain.1 (omega (arith, small))) ∙ ap decimal (sym value)
+        sym (decimal-digits_value digits-model bs digits some plain.1 (omega (arith, small))) ∙ ap decimal (sym value)
 
 -- a number is written without a plus and leading zeros
 pub decimal-unpadded : (n : ℕ) → n < 2 ^ 64 → IsUnpadded (decimal n)

@@ -17,19 +17,24 @@ All-deck v deck full k d low =
     omega (arith, one, full (slice_index_or deck k d))
 
 -- what the variant has not does not stand among its cards
-count_of-absent : (v : Variant) (id : Identity) → copies v id ≡ 0 → (cards : List Identity) → All (λ x. 0 < copies v x) cards → count_of id cards ≡ 0
+count_of-absent : (v : Variant) (id : Identity) → copies v id ≡ 0 → (cards : List Identity)
+    → All (λ x. 0 < copies v x) cards → count_of id cards ≡ 0
 count_of-absent v id none [] all = refl
-count_of-absent v id none (x ∷ xs) all = pick (same_identity id x) refl (count_of-absent v id none xs (λ k d low. all (suc k) d (omega arith)))
+count_of-absent v id none (x ∷ xs) all =
+    pick (same_identity id x) refl (count_of-absent v id none xs (λ k d low. all (suc k) d (omega arith)))
   where
     pick : (b : Bool) → same_identity id x ≡ b → count_of id xs ≡ 0 → count_of id (x ∷ xs) ≡ 0
     pick true e rest = let same : id ≡ x = same_identity-true id x e in
         let here : 0 < copies v x = all 0 x (omega arith) in
         absurd (omega (arith, here, none, ap (copies v) same))
-    pick false e rest = let more : count_of id (x ∷ xs) ≡ cond (same_identity id x) 1 0 + count_of id xs = sum_by-cons (λ y. cond (same_identity id y) 1 0) x xs in
+    pick false e rest =
+        let more : count_of id (x ∷ xs) ≡ cond (same_identity id x) 1 0 + count_of id xs =
+        sum_by-cons (λ y. cond (same_identity id y) 1 0) x xs in
         let none' : cond {A = ℕ} (same_identity id x) 1 0 ≡ 0 = rw e refl in omega (arith, more, none', rest)
 
 -- a list whose identities are as many as the copies is a deck
-pub IsDeck-counted : (v : Variant) (deck : List Identity) → All (λ id. 0 < copies v id) deck → ((n : ℕ) → n < 30 → count_of (identity n) deck ≡ copies v (identity n)) → IsDeck v deck
+pub IsDeck-counted : (v : Variant) (deck : List Identity) → All (λ id. 0 < copies v id) deck
+    → ((n : ℕ) → n < 30 → count_of (identity n) deck ≡ copies v (identity n)) → IsDeck v deck
 IsDeck-counted v deck all counted id = pick (copies v id) refl
   where
     pick : (n : ℕ) → copies v id ≡ n → count_of id deck ≡ copies v id

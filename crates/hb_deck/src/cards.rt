@@ -20,7 +20,7 @@ fn push_copies(list: &mut Vec<Identity>, variant: &Variant, id: Identity) -> Res
 
 /// Adds the cards of the suit with this index, by rank.
 fn push_suit(list: &mut Vec<Identity>, variant: &Variant, suit: u8) -> Result<(), AllocError>
-    requires { suit < 6 }
+    requires { suit < MOST_SUITS }
     ensures { OnOk result (list.new.items ≡ list.old.items ++ suit_cards variant.now suit) }
 {
     for rank in 1..=HIGHEST_RANK {

@@ -17,7 +17,9 @@ use Rattle.hb_rules.proofs.Numbers.{copies-none, copies-in_range, identity-numbe
 use Rattle.hb_sets.specs.Sets.{bit, Has}
 use Rattle.hb_match.specs.Matching.{IsAssignment, Possible, uses}
 use Rattle.hb_empathy.specs.Unseen.{AreMarks, AreUnseen}
-use Rattle.hb_empathy.proofs.Choices.{Runs, seen_after, hidden-drawn, count-within, possible-choice, choice-possible, own-choice}
+use Rattle.hb_empathy.proofs.CardCounts.{count-within}
+use Rattle.hb_empathy.proofs.MeetsLemmas.{hidden-drawn}
+use Rattle.hb_empathy.proofs.Choices.{Runs, seen_after, possible-choice, choice-possible, own-choice}
 use Rattle.hb_empathy.proofs.OrderPlaces.{place, AtPlace, at_place, Passes, filter-at, count-given}
 use Rattle.hb_empathy.proofs.SeenCopies.{count-seen}
 

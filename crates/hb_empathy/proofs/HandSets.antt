@@ -6,7 +6,6 @@ use Rattle.std.specs.List.Sorted.{IsStrictlyIncreasing}
 use Rattle.std.proofs.lemmas.Bool.{cases_eq}
 use Rattle.std.proofs.lemmas.List.{get_or_default, get_or-set_same, get_or-set_other, length-set, take_more, map-append, length-append, take_all}
 use Rattle.std.proofs.lemmas.List.Elements.{All-push}
-use Rattle.std.proofs.lemmas.List.FromFn.{length-range_with_len, get_or-range_with_len}
 use Rattle.std.proofs.lemmas.List.Kept.{AllPairs-from_increasing, IsStrictlyIncreasing-filter}
 use Rattle.hb_rules.specs.declared.acts.Act.{Act}
 use Rattle.hb_rules.specs.declared.setups.Setup.{Setup}
@@ -28,6 +27,8 @@ use Rattle.hb_empathy.proofs.OrderPlaces.{place, AtPlace, Passes, filter-at}
 use Rattle.hb_empathy.proofs.Assignments.{hidden-place, IsAsked}
 use Rattle.hb_empathy.proofs.Choices.{seen_after}
 use Rattle.hb_empathy.proofs.KnownCards.{game-runs, held-card, known-held, known-exact, found-exact}
+use Rattle.hb_rules.proofs.Hands.{is_at-true}
+use Rattle.hb_rules.proofs.Possible.{range-rises}
 
 -- what holds of each number that a test keeps
 all-kept : (r : ℕ → Bool) (P : ℕ → Type 0) (n : ℕ) → ((k : ℕ) → k < n → r k ≡ true → P k) → All P (filter r (range_with_len 0 n))
@@ -37,16 +38,12 @@ all-kept r P n each j d low =
     subst P e (each (slice_index (filter r (range_with_len 0 n)) j) (omega (arith, p.high)) p.passes)
 
 -- a seat holds the orders of its hand
-at-some : (o : Option ℕ) (seat : ℕ) → is_at o seat ≡ true → o ≡ Some seat
-at-some (Some s) seat h = grind arith
-at-some None seat h = cc
-
 hand-holder : (g : Setup) (past : List Act) (seat j : ℕ) → j < length (hand g past seat)
     → holder g past (slice_index (hand g past seat) j) ≡ Some seat
 hand-holder g past seat j low =
     let p : Passes (λ order. is_at (holder g past order) seat) 0 (length g.deck.items) (slice_index (hand g past seat) j) = filter-at
     (λ order. is_at (holder g past order) seat) 0 (length g.deck.items) j low in
-    at-some (holder g past (slice_index (hand g past seat) j)) seat p.passes
+    is_at-true (holder g past (slice_index (hand g past seat) j)) seat p.passes
 
 -- so the order at a place of a hand is held by the hand's seat
 pub held-at : (g : Setup) (past : List Act) (held : List ℕ) (seat j order : ℕ) → held ≡ hand g past seat → j < length held
@@ -71,13 +68,7 @@ pub hidden-low : (blind : ℕ) (g : Setup) (past : List Act) → IsFair g → Al
 hidden-low blind g past fair = all-kept (is_hidden blind g past) (λ order. order < 60) (drawn_count g past)
     (λ k low hid. omega (arith, fair.long))
 
--- numbers of a range ascend
-pub range-rises : (n : ℕ) → IsStrictlyIncreasing (range_with_len 0 n)
-range-rises n k low =
-    let l : k + 1 < n = omega (arith, length-range_with_len 0 n) in
-    omega (arith, get_or-range_with_len 0 n k 0 (omega arith), get_or-range_with_len 0 n (k + 1) 0 l)
-
--- and so do the hidden orders
+-- the hidden orders ascend
 pub hidden-rises : (blind : ℕ) (g : Setup) (past : List Act) → IsStrictlyIncreasing (hidden blind g past)
 hidden-rises blind g past = IsStrictlyIncreasing-filter (is_hidden blind g past) (range_with_len 0 (drawn_count g past))
     (range-rises (drawn_count g past))

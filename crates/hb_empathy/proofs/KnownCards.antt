@@ -28,7 +28,8 @@ use Rattle.hb_empathy.specs.Exact.{IsExact, IsOnly}
 use Rattle.hb_sight.proofs.NamedActs.{acts_of-observation}
 use Rattle.hb_sight.proofs.Agreement.{with_cards}
 use Rattle.hb_empathy.proofs.Replays.{Replays}
-use Rattle.hb_empathy.proofs.ShownCards.{Shown, observation-replays}
+use Rattle.hb_empathy.proofs.ShownCards.{Shown}
+use Rattle.hb_empathy.proofs.Observations.{observation-replays}
 use Rattle.hb_empathy.proofs.Choices.{Runs, own-deal, seen_after}
 use Rattle.hb_empathy.proofs.OneDeal.{one-deal}
 use Rattle.hb_empathy.proofs.OrderPlaces.{place}

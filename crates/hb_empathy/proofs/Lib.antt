@@ -1,5 +1,10 @@
 pub mod Replays
 pub mod ShownCards
+pub mod TouchedCards
+pub mod Observations
+pub mod CardCounts
+pub mod MeetsLemmas
+pub mod MixedDecks
 pub mod Choices
 pub mod OneDeal
 pub mod OrderPlaces

@@ -3,7 +3,7 @@ use Rattle.std.proofs.Common.{◌≡◌, ◌≢◌, ℕ, ◌+◌, ◌<◌, ◌�
 use Rattle.std.specs.Prelude.{◌==◌, filter, count_by, slice_index, if◌then◌else◌}
 use Rattle.std.specs.List.{range_with_len}
 use Rattle.std.proofs.lemmas.List.Sums.{sum_by-cons}
-use Rattle.hb_empathy.proofs.Choices.{count-within}
+use Rattle.hb_empathy.proofs.CardCounts.{count-within}
 
 -- the first place of a number in a list, or the list's length
 unfoldable pub place : List ℕ → ℕ → ℕ

@@ -3,7 +3,7 @@
 use Rattle.std.proofs.Common.{◌≡◌, ℕ, ◌+◌, ◌-◌, ◌<◌, ◌≤◌, Bool, true, false, cond, List, [], ◌∷◌, ◌++◌, refl, arith, ◌∙◌, length, zero, suc, None, Option}
 use Rattle.std.specs.Prelude.{◌==◌, ◌&&◌, ◌||◌, not, nat_lt, nat_le, is_some, filter, count_by, if◌then◌else◌}
 use Rattle.std.specs.List.{range_with_len}
-use Rattle.std.proofs.lemmas.List.Sums.{sum_by-cons, sum_by-append}
+use Rattle.std.proofs.lemmas.List.Sums.{sum_by-append}
 use Rattle.std.proofs.lemmas.List.{length-append}
 use Rattle.hb_rules.specs.declared.acts.Act.{Act}
 use Rattle.hb_rules.specs.declared.acts.Action.{Action}
@@ -18,12 +18,10 @@ use Rattle.hb_rules.specs.Marks.{is_hidden, hides_from, hidden, seen, gone_copie
 use Rattle.hb_rules.proofs.Hands.{holder-past}
 use Rattle.hb_rules.proofs.Ranges.{filter-range_more}
 use Rattle.hb_rules.proofs.Rules.{may_play, may_discard}
-use Rattle.hb_rules.proofs.Undrawn.{held-drawn, received}
+use Rattle.hb_rules.proofs.Undrawn.{held-drawn, receiver-drawn}
 use Rattle.hb_empathy.specs.Unseen.{is_shown, shown_copies}
 use Rattle.hb_empathy.proofs.Choices.{own-choice}
-
-count-cons : (p : ℕ → Bool) (x : ℕ) (xs : List ℕ) → count_by p (x ∷ xs) ≡ cond (p x) 1 0 + count_by p xs
-count-cons p x xs = sum_by-cons (λ k. cond (p k) 1 0) x xs
+use Rattle.hb_rules.proofs.HandSize.{count_by-cons}
 
 abbrev one : Bool → ℕ
 one b = cond b 1 0
@@ -43,8 +41,8 @@ count-split p r s t a (suc n) e =
         → count_by p (rest r) ≡ count_by p (rest s) + count_by p (rest t)
         → count_by p (cond x (a ∷ rest r) (rest r)) ≡ count_by p (cond y (a ∷ rest s) (rest s)) + count_by p (cond z (a ∷ rest t) (rest t))
     pick true true true f g h e ih = absurd (omega arith)
-    pick true true false f g h e ih = omega (arith, ih, count-cons p a (rest r), count-cons p a (rest s))
-    pick true false true f g h e ih = omega (arith, ih, count-cons p a (rest r), count-cons p a (rest t))
+    pick true true false f g h e ih = omega (arith, ih, count_by-cons p a (rest r), count_by-cons p a (rest s))
+    pick true false true f g h e ih = omega (arith, ih, count_by-cons p a (rest r), count_by-cons p a (rest t))
     pick true false false f g h e ih = absurd (omega arith)
     pick false true true f g h e ih = absurd (omega arith)
     pick false true false f g h e ih = absurd (omega arith)
@@ -62,7 +60,7 @@ count-one p order a (suc n) = pick (order == a) refl (count-one p order (a + 1) 
 
     pick : (b : Bool) → (order == a) ≡ b → count_by p rest ≡ (if nat_le (a + 1) order && nat_lt order (a + 1 + n) then one (p order) else 0)
         → count_by p (cond b (a ∷ rest) rest) ≡ (if nat_le a order && nat_lt order (a + suc n) then one (p order) else 0)
-    pick true e ih = let s : order ≡ a = grind arith in grind (arith, count-cons p a rest)
+    pick true e ih = let s : order ≡ a = grind arith in grind (arith, count_by-cons p a rest)
     pick false e ih = grind arith
 
 none-gone : (p : ℕ → Bool) (a n : ℕ) → count_by p (filter (λ (k : ℕ). false) (range_with_len a n)) ≡ 0
@@ -102,7 +100,7 @@ count-gone g (act ∷ past) dealt legal p n far = step act.action legal.0 far (c
         count-split p (λ k. order == k || is_gone past k) (λ k. order == k) (is_gone past) 0 n
         (λ k low high. one-more order k (is_gone past k) (λ same. let e : order ≡ k = grind arith in rw (← e) fresh)) in
         let here : count_by p (filter (λ k. order == k) (range_with_len 0 n)) ≡ one (p order) = count-one p order 0 n ∙ (grind arith) in
-        omega (arith, parts, here, ih wide, count-cons p order (removed past))
+        omega (arith, parts, here, ih wide, count_by-cons p order (removed past))
 
     step : (a : Action) → rule g past (record { who = act.who; action = a }) ≡ None
         → drawn_count g (record { who = act.who; action = a } ∷ past) ≤ n → before
@@ -129,7 +127,7 @@ count-seen blind g past dealt legal p =
     let n : ℕ = drawn_count g past in
     let parts : count_by p (seen blind g past) ≡ count_by p (filter (is_gone past) (range_with_len 0 n)) + count_by p (shown blind g past) =
     count-split p (λ k. not (is_hidden blind g past k)) (is_gone past) (is_shown blind g past) 0 n
-    (λ k low high. seen-one blind (is_gone past k) (receiver g past k) (received g past k (omega arith) (omega arith))) in
+    (λ k low high. seen-one blind (is_gone past k) (receiver g past k) (receiver-drawn g past k (omega arith) (omega arith))) in
     omega (arith, parts, count-gone g past dealt legal p n (omega arith))
 
 -- so of no identity more copies are seen than there are
@@ -165,7 +163,7 @@ kept-apart s t a (suc n) apart = pick (s a) (t a) refl refl (kept-apart s t (a +
 
 count-all : (xs : List ℕ) → count_by (λ (k : ℕ). true) xs ≡ length xs
 count-all [] = refl
-count-all (x ∷ xs) = count-cons (λ k. true) x xs ∙ (let ih : count_by (λ (k : ℕ). true) xs ≡ length xs = count-all xs in omega arith)
+count-all (x ∷ xs) = count_by-cons (λ k. true) x xs ∙ (let ih : count_by (λ (k : ℕ). true) xs ≡ length xs = count-all xs in omega arith)
 
 hidden-gone : (blind : ℕ) (g : Setup) (past : List Act) (k : ℕ) → is_hidden blind g past k ≡ true → is_gone past k ≡ false
 hidden-gone blind g past k hid = pick (is_gone past k) refl hid

@@ -19,6 +19,7 @@ pub record IsPlain (n : ℕ) (d : Data) : Type 0 where
   pub exact : has_float d ≡ false
   pub low : depth d ≤ n
 
+-- members whose values have no float and are at most n deep
 pub record ArePlain (n : ℕ) (ms : Members) : Type 0 where
   pub exact : members_have_float ms ≡ false
   pub low : members_depth ms ≤ n

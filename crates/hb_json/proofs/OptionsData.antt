@@ -69,100 +69,100 @@ record Says (name : List ℕ) (starting base turn : ℕ) (later e x l t : Bool) 
   no_others : first_other (written name starting base turn later e x l t) ≡ None
 
 -- by cases of what is true or false
-says : (name : List ℕ) (starting base turn : ℕ) (later e x l t : Bool) → Says name starting base turn later e x l t
-says name starting base turn true true true true true =
+options-says : (name : List ℕ) (starting base turn : ℕ) (later e x l t : Bool) → Says name starting base turn later e x l t
+options-says name starting base turn true true true true true =
     record { a_variant = refl; a_starting = refl; some_modes = refl; no_others = refl }
-says name starting base turn true true true true false =
+options-says name starting base turn true true true true false =
     record { a_variant = refl; a_starting = refl; some_modes = refl; no_others = refl }
-says name starting base turn true true true false true =
+options-says name starting base turn true true true false true =
     record { a_variant = refl; a_starting = refl; some_modes = refl; no_others = refl }
-says name starting base turn true true true false false =
+options-says name starting base turn true true true false false =
     record { a_variant = refl; a_starting = refl; some_modes = refl; no_others = refl }
-says name starting base turn true true false true true =
+options-says name starting base turn true true false true true =
     record { a_variant = refl; a_starting = refl; some_modes = refl; no_others = refl }
-says name starting base turn true true false true false =
+options-says name starting base turn true true false true false =
     record { a_variant = refl; a_starting = refl; some_modes = refl; no_others = refl }
-says name starting base turn true true false false true =
+options-says name starting base turn true true false false true =
     record { a_variant = refl; a_starting = refl; some_modes = refl; no_others = refl }
-says name starting base turn true true false false false =
+options-says name starting base turn true true false false false =
     record { a_variant = refl; a_starting = refl; some_modes = refl; no_others = refl }
-says name starting base turn true false true true true =
+options-says name starting base turn true false true true true =
     record { a_variant = refl; a_starting = refl; some_modes = refl; no_others = refl }
-says name starting base turn true false true true false =
+options-says name starting base turn true false true true false =
     record { a_variant = refl; a_starting = refl; some_modes = refl; no_others = refl }
-says name starting base turn true false true false true =
+options-says name starting base turn true false true false true =
     record { a_variant = refl; a_starting = refl; some_modes = refl; no_others = refl }
-says name starting base turn true false true false false =
+options-says name starting base turn true false true false false =
     record { a_variant = refl; a_starting = refl; some_modes = refl; no_others = refl }
-says name starting base turn true false false true true =
+options-says name starting base turn true false false true true =
     record { a_variant = refl; a_starting = refl; some_modes = refl; no_others = refl }
-says name starting base turn true false false true false =
+options-says name starting base turn true false false true false =
     record { a_variant = refl; a_starting = refl; some_modes = refl; no_others = refl }
-says name starting base turn true false false false true =
+options-says name starting base turn true false false false true =
     record { a_variant = refl; a_starting = refl; some_modes = refl; no_others = refl }
-says name starting base turn true false false false false =
+options-says name starting base turn true false false false false =
     record { a_variant = refl; a_starting = refl; some_modes = refl; no_others = refl }
-says name starting base turn false true true true true =
+options-says name starting base turn false true true true true =
     record { a_variant = refl; a_starting = refl; some_modes = refl; no_others = refl }
-says name starting base turn false true true true false =
+options-says name starting base turn false true true true false =
     record { a_variant = refl; a_starting = refl; some_modes = refl; no_others = refl }
-says name starting base turn false true true false true =
+options-says name starting base turn false true true false true =
     record { a_variant = refl; a_starting = refl; some_modes = refl; no_others = refl }
-says name starting base turn false true true false false =
+options-says name starting base turn false true true false false =
     record { a_variant = refl; a_starting = refl; some_modes = refl; no_others = refl }
-says name starting base turn false true false true true =
+options-says name starting base turn false true false true true =
     record { a_variant = refl; a_starting = refl; some_modes = refl; no_others = refl }
-says name starting base turn false true false true false =
+options-says name starting base turn false true false true false =
     record { a_variant = refl; a_starting = refl; some_modes = refl; no_others = refl }
-says name starting base turn false true false false true =
+options-says name starting base turn false true false false true =
     record { a_variant = refl; a_starting = refl; some_modes = refl; no_others = refl }
-says name starting base turn false true false false false =
+options-says name starting base turn false true false false false =
     record { a_variant = refl; a_starting = refl; some_modes = refl; no_others = refl }
-says name starting base turn false false true true true =
+options-says name starting base turn false false true true true =
     record { a_variant = refl; a_starting = refl; some_modes = refl; no_others = refl }
-says name starting base turn false false true true false =
+options-says name starting base turn false false true true false =
     record { a_variant = refl; a_starting = refl; some_modes = refl; no_others = refl }
-says name starting base turn false false true false true =
+options-says name starting base turn false false true false true =
     record { a_variant = refl; a_starting = refl; some_modes = refl; no_others = refl }
-says name starting base turn false false true false false =
+options-says name starting base turn false false true false false =
     record { a_variant = refl; a_starting = refl; some_modes = refl; no_others = refl }
-says name starting base turn false false false true true =
+options-says name starting base turn false false false true true =
     record { a_variant = refl; a_starting = refl; some_modes = refl; no_others = refl }
-says name starting base turn false false false true false =
+options-says name starting base turn false false false true false =
     record { a_variant = refl; a_starting = refl; some_modes = refl; no_others = refl }
-says name starting base turn false false false false true =
+options-says name starting base turn false false false false true =
     record { a_variant = refl; a_starting = refl; some_modes = refl; no_others = refl }
-says name starting base turn false false false false false =
+options-says name starting base turn false false false false false =
     record { a_variant = refl; a_starting = refl; some_modes = refl; no_others = refl }
 
-itself : (n : ℕ) → (if not (n == 0) then n else 0) ≡ n
-itself n = grind arith
+unless-zero : (n : ℕ) → (if not (n == 0) then n else 0) ≡ n
+unless-zero n = grind arith
 
 -- what options_data writes is said back
 pub SaysBack-options_data : (name : List ℕ) (o : Options) → SaysBack name o
 SaysBack-options_data name o =
-    let h = says name o.starting o.base_s o.per_turn_s (not (o.starting == 0)) o.empty_clues o.extra_card o.less_card o.timed in
-    record { variant = h.a_variant; starting = h.a_starting ∙ ap Ok (itself o.starting); modes = h.some_modes; others = h.no_others }
+    let h = options-says name o.starting o.base_s o.per_turn_s (not (o.starting == 0)) o.empty_clues o.extra_card o.less_card o.timed in
+    record { variant = h.a_variant; starting = h.a_starting ∙ ap Ok (unless-zero o.starting); modes = h.some_modes; others = h.no_others }
 
 not-above : (n : ℕ) → n ≤ MOST_SECONDS → nat_lt MOST_SECONDS n ≡ false
 not-above n h = grind arith
 
-fault : (starting base turn : ℕ) (e x l t : Bool) → AreModes (options starting base turn e x l t)
+modes_fault-modes_of : (starting base turn : ℕ) (e x l t : Bool) → AreModes (options starting base turn e x l t)
     → modes_fault (modes_of (options starting base turn e x l t)) ≡ None
-fault starting base turn e x l true h = rw (h.0, not-above base h.1, not-above turn h.2) refl
-fault starting base turn e x l false h = rw h.0 refl
+modes_fault-modes_of starting base turn e x l true h = rw (h.0, not-above base h.1, not-above turn h.2) refl
+modes_fault-modes_of starting base turn e x l false h = rw h.0 refl
 
-same : (starting base turn : ℕ) (e x l t : Bool) → AreModes (options starting base turn e x l t)
+options_with-same : (starting base turn : ℕ) (e x l t : Bool) → AreModes (options starting base turn e x l t)
     → options_with starting (modes_of (options starting base turn e x l t)) ≡ options starting base turn e x l t
-same starting base turn e x l true h = refl
-same starting base turn e x l false h = rw (h.1, h.2) refl
+options_with-same starting base turn e x l true h = refl
+options_with-same starting base turn e x l false h = rw (h.1, h.2) refl
 
 -- options in their ranges are those of their modes
 pub options_with-modes_of : (o : Options) → AreModes o
     → unless_fault (modes_fault (modes_of o)) (options_with o.starting (modes_of o)) ≡ Ok o
 options_with-modes_of o h =
     let no_fault : modes_fault (modes_of o) ≡ None =
-    fault o.starting o.base_s o.per_turn_s o.empty_clues o.extra_card o.less_card o.timed h in
+    modes_fault-modes_of o.starting o.base_s o.per_turn_s o.empty_clues o.extra_card o.less_card o.timed h in
     let it : options_with o.starting (modes_of o) ≡ o =
-    same o.starting o.base_s o.per_turn_s o.empty_clues o.extra_card o.less_card o.timed h in
+    options_with-same o.starting o.base_s o.per_turn_s o.empty_clues o.extra_card o.less_card o.timed h in
     rw (no_fault, it) refl

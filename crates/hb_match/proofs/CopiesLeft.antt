@@ -19,12 +19,15 @@ over-pos left chosen over k enough is h =
     let id : ℕ = get_or chosen k 0 in
     omega (arith, is id, enough id, uses-take_more chosen k id h, uses-take-le chosen (k + 1) id, one-same id)
 
+-- one more chosen card takes one copy of its identity
 pub over_less : (left chosen over : List ℕ) (k : ℕ) → IsEnough left chosen → IsLeftOver left (take k chosen) over → k < length chosen
     → IsLeftOver left (take (k + 1) chosen) (set over (get_or chosen k 0) (get_or over (get_or chosen k 0) 0 - 1))
 over_less left chosen over k enough is h id =
     let taken : ℕ = get_or chosen k 0 in
     let some : 0 < get_or over taken 0 = over-pos left chosen over k enough is h in
-    let within : taken < length over = ⊎_elim (λ l. l) (λ past. absurd (omega (arith, get_or_past over taken 0 past))) (cases_lt taken (length over)) in
+    let within : taken < length over =
+    ⊎_elim (λ l. l) (λ past. absurd (omega (arith, get_or_past over taken 0 past)))
+    (cases_lt taken (length over)) in
     ⊎_elim
     (λ (e : id ≡ taken). rw e (rw get_or-set_same (omega (arith, is taken, uses-take_more chosen k taken h, one-same taken))))
     (λ (ne : id ≢ taken). rw get_or-set_other (omega (arith, is id, uses-take_more chosen k id h, one-other taken id (λ e. ne (sym e)))))

@@ -50,6 +50,7 @@ spare_exchanged masks left chosen free card id a h spare =
       stays = λ k l (ne : k ≢ card) out. rw get_or-set_other;
     }
 
+-- before any exchange just the identities that can take the card are reached
 pub reaches_start : (masks left chosen : List ℕ) (card spare free : ℕ) → IsAssignment masks left chosen → card < length masks
     → ((id : ℕ) → Has spare id ↔ (uses chosen id < slice_index left id))
     → Has free (slice_index chosen card) → ((j : ℕ) → j ≢ slice_index chosen card → bit free j ≡ bit spare j)
@@ -143,6 +144,7 @@ kept_exchanged masks left chosen other free wider card id keeps e = record {
   stays = λ k l ne out. e.stays k l ne (λ p. out (keeps (slice_index chosen k) p));
 }
 
+-- an exchange that moves a card reaches the other identities of that card
 pub reaches_more : (masks left chosen : List ℕ) (card free wider moved to : ℕ) → IsAssignment masks left chosen → card < length masks
     → Reaches masks left chosen card free → CanMove masks chosen free moved to
     → Has wider (slice_index chosen moved) → ((j : ℕ) → j ≢ slice_index chosen moved → bit wider j ≡ bit free j)

@@ -47,7 +47,10 @@ gathered_more masks chosen closed n cards ids cards' ids' g below out put rest n
     let left : (id : ℕ) → Has ids id → Has ids' id = λ id p. omega (arith, union id, bit-lt (slice_index masks n) id) in
     let right : (id : ℕ) → Has (slice_index masks n) id → Has ids' id = λ id p. omega (arith, union id, bit-lt ids id) in
     let either : (id : ℕ) → Has ids' id → Has ids id ⊎ Has (slice_index masks n) id =
-    λ id p. ⊎_elim (λ e. inl e) (λ ne. inr (omega (arith, union id, bit-lt ids id, bit-lt (slice_index masks n) id))) (cases_eq (bit ids id) 1) in
+    λ id p.
+    ⊎_elim (λ e. inl e)
+    (λ ne. inr (omega (arith, union id, bit-lt ids id, bit-lt (slice_index masks n) id)))
+    (cases_eq (bit ids id) 1) in
     record {
       next = keeps (length chosen) g.next;
       taken = λ k h away. ⊎_elim (λ e. let P : ℕ → Type 0 = λ j. Has cards' j in subst P (sym e) put)

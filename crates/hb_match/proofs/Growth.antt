@@ -16,6 +16,7 @@ pub record Grows (masks left chosen : List ℕ) (card before free n : ℕ) : Typ
   pub fits : free < 2 ^ 64
   pub closed : before ≡ free → IsClosed masks chosen free n
 
+-- a search that begins has closed nothing
 pub grows_start : (masks left chosen : List ℕ) (card spare free n : ℕ) → IsAssignment masks left chosen → card < length masks
     → ((id : ℕ) → Has spare id ↔ (uses chosen id < slice_index left id))
     → Has free (slice_index chosen card) → ((j : ℕ) → j ≢ slice_index chosen card → bit free j ≡ bit spare j)
@@ -60,7 +61,8 @@ grows_past masks left chosen card before free n found g is none = record {
 }
 
 -- a card that could take a member of the set: what it holds joins the set, if it is not there already
-pub grows_more : (masks left chosen : List ℕ) (card before free wider n : ℕ) (found : Option ℕ) → IsAssignment masks left chosen → card < length masks
+pub grows_more : (masks left chosen : List ℕ) (card before free wider n : ℕ) (found : Option ℕ)
+    → IsAssignment masks left chosen → card < length masks
     → Grows masks left chosen card before free n → n < length chosen
     → MatchOption found (IsDisjoint (slice_index masks n) free) (IsLeastCommon (slice_index masks n) free) → is_some found ≡ true
     → Has wider (slice_index chosen n) → ((j : ℕ) → j ≢ slice_index chosen n → bit wider j ≡ bit free j)

@@ -43,20 +43,23 @@ unfolding chosen_in
 cards-le-chosen_in masks left chosen cards ids b a =
     let given : (k : ℕ) → k < length chosen → bit cards k ≤ bit ids (get_or chosen k 0) =
     λ k h. bit_le cards k ids (get_or chosen k 0) (λ p. (b.union (get_or chosen k 0)).1 (k, p, a.in_mask k (omega (arith, a.one_each)))) in
-    let by_card = sum_below-le-weight (length left) (λ id. bit ids id) (λ k. bit cards k) chosen (λ k h. chosen-lt left chosen k a.enough h) given in
+    let by_card =
+    sum_below-le-weight (length left) (λ id. bit ids id) (λ k. bit cards k) chosen
+    (λ k h. chosen-lt left chosen k a.enough h) given in
     let small = lt-from_members cards (length chosen) (λ k p. omega (arith, b.in_range k p, a.one_each)) in
     omega (arith, by_card, ones-sum (length chosen) cards small)
 
-pub excluded : (masks left : List ℕ) (cards ids : ℕ) → IsObstruction masks left cards ids → NoAssignment masks left
-excluded masks left cards ids b chosen a =
+-- too few copies for the cards of an obstruction: there is no assignment
+pub obstruction-excludes : (masks left : List ℕ) (cards ids : ℕ) → IsObstruction masks left cards ids → NoAssignment masks left
+obstruction-excludes masks left cards ids b chosen a =
     omega (arith, b.too_few, cards-le-chosen_in masks left chosen cards ids b a, chosen_in-le-copies left chosen ids a.enough)
 
 -- ---- what `obstruction` answers is an obstruction
 
 -- no gathered identity is in the closed set
-apart : (masks chosen : List ℕ) (free closed cards ids : ℕ) → ShutsOut masks chosen free closed
+ids-not_closed : (masks chosen : List ℕ) (free closed cards ids : ℕ) → ShutsOut masks chosen free closed
     → Gathers masks chosen closed (length chosen) cards ids → (id : ℕ) → Has ids id → ¬ Has closed id
-apart masks chosen free closed cards ids s g id p q =
+ids-not_closed masks chosen free closed cards ids s g id p q =
     let f = g.covered id p in ⊎_elim
     (λ e. s.next_out id (let P : ℕ → Type 0 = λ k. Has (slice_index masks k) id in subst P e f.2) q)
     (λ r. s.no_move f.0 r.0 r.1 id f.2 q)
@@ -87,13 +90,18 @@ chosen_in-lt-cards masks left chosen closed cards ids g out =
     let by_card = weight-le-sum_below (length left) (λ id. bit ids id) (λ k. bit cards k) chosen holders in
     omega (arith, by_card, sum_below-more (length chosen) (λ k. bit cards k), ones-sum (length chosen + 1) cards g.narrow, g.next)
 
-pub blocked : (masks left chosen : List ℕ) (free closed cards ids : ℕ) → length chosen < length masks
+-- what a search gathered that found no way is an obstruction
+pub gathers-blocked : (masks left chosen : List ℕ) (free closed cards ids : ℕ) → length chosen < length masks
     → ((id : ℕ) → uses chosen id < slice_index left id → Has free id)
     → ShutsOut masks chosen free closed → Gathers masks chosen closed (length chosen) cards ids → IsObstruction masks left cards ids
-blocked masks left chosen free closed cards ids more spare s g =
-    let out = apart masks chosen free closed cards ids s g in
+gathers-blocked masks left chosen free closed cards ids more spare s g =
+    let out = ids-not_closed masks chosen free closed cards ids s g in
     record {
       in_range = λ k p. omega (arith, member-lt cards (length chosen + 1) k g.narrow p);
       union = λ id. (λ p. g.covered id p, λ (k, p, q). g.covers k p id q);
-      too_few = omega (arith, copies-le-chosen_in left chosen free closed ids spare s.wider out, chosen_in-lt-cards masks left chosen closed cards ids g out);
+      too_few = omega (
+        arith,
+        copies-le-chosen_in left chosen free closed ids spare s.wider out,
+        chosen_in-lt-cards masks left chosen closed cards ids g out,
+      );
     }

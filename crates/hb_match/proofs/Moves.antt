@@ -8,6 +8,7 @@ use Rattle.hb_sets.specs.Sets.{bit, Has}
 use Rattle.hb_match.specs.Placing.{one, Holds, CanMove, Places}
 use Rattle.hb_match.proofs.Uses.{uses-push, uses-set}
 
+-- a card is placed at once where a copy that it can have is free
 pub placed_now : (masks old : List ℕ) (free id : ℕ) → Holds masks old
     → Has (slice_index masks (length old)) id → Has free id → id < 64 → Places masks old (old ++ id ∷ []) free id
 placed_now masks old free id holds in_mask inside small = record {
@@ -48,4 +49,5 @@ refill-set xs ys i v e = rw e (
     let same : length (slice_set xs i v) ≡ length xs = length-set xs i v in
     let all : length (slice_set xs i v) ≤ length xs = omega arith in
     let enough : length xs ≤ length (slice_set xs i v) = omega arith in
-    rw (take-append-le (length xs) (slice_set xs i v) (drop (length (slice_set xs i v)) xs) enough) (take_all (length xs) (slice_set xs i v) all))
+    rw (take-append-le (length xs) (slice_set xs i v) (drop (length (slice_set xs i v)) xs) enough)
+    (take_all (length xs) (slice_set xs i v) all))

@@ -65,7 +65,9 @@ out_each masks left chosen other card free closed own same a out k h = ⊎_elim
     (λ (e : k ≡ card). rw e (omega (arith, own, one-same card, out, bit-lt free (slice_index other card))))
     (λ (ne : k ≢ card).
     let into : Has free (slice_index other k) → Has free (slice_index chosen k) =
-    λ p. ⊎_elim (λ q. q) (λ away. absurd (closed k (omega arith) away (slice_index other k) (a.in_mask k h) p)) (cases_eq (bit free (slice_index chosen k)) 1) in
+    λ p.
+    ⊎_elim (λ q. q) (λ away. absurd (closed k (omega arith) away (slice_index other k) (a.in_mask k h) p))
+    (cases_eq (bit free (slice_index chosen k)) 1) in
     omega (arith, one-other card k (λ q. ne (sym q)), bit_le free (slice_index other k) free (slice_index chosen k) into))
     (cases_eq k card)
 
@@ -79,7 +81,9 @@ chosen_out-lt masks left chosen other card free h closed own same a out =
     let more = sum_below-le-weight (length left) (λ id. 1 - bit free id) (λ k. 1 - bit free (slice_index chosen k) + one card k) other
     (λ k l. chosen-lt left other k a.enough l) each in
     let parts = sum_below-add (length other) (λ k. 1 - bit free (slice_index chosen k)) (λ k. one card k) in
-    let by_card = weight-le-sum_below (length left) (λ id. 1 - bit free id) (λ k. 1 - bit free (slice_index chosen k)) chosen (λ k l. omega arith) in
+    let by_card =
+    weight-le-sum_below (length left) (λ id. 1 - bit free id) (λ k. 1 - bit free (slice_index chosen k))
+    chosen (λ k l. omega arith) in
     let lengths : length chosen ≡ length other = omega (arith, a.one_each) in
     omega (
       arith,
@@ -107,6 +111,7 @@ possible-of_mask : (masks left : List ℕ) (card id : ℕ) → card < length mas
 possible-of_mask masks left card id h (chosen, a, here) =
     let P : ℕ → Type 0 = λ x. Has (slice_index masks card) x in subst P here (a.in_mask card h)
 
+-- what a closed search met is what the card can have
 pub met_possible : (masks left chosen : List ℕ) (card free met : ℕ) → IsAssignment masks left chosen → card < length masks
     → Reaches masks left chosen card free → IsClosed masks chosen free (length chosen)
     → ((id : ℕ) → bit met id ≡ min (bit (slice_index masks card) id) (bit free id))

@@ -17,14 +17,17 @@ use Rattle.hb_sets.proofs.Bits.{bit-low, bit-div}
 unfoldable pub sum_below : ℕ → (ℕ → ℕ) → ℕ
 sum_below n f = sum (map f (range_with_len 0 n))
 
+-- the sum of no terms
 pub sum_below-zero : (f : ℕ → ℕ) → sum_below 0 f ≡ 0
 unfolding sum_below
 sum_below-zero f = refl
 
+-- the sum of one term more
 pub sum_below-more : (n : ℕ) (f : ℕ → ℕ) → sum_below (n + 1) f ≡ sum_below n f + f n
 unfolding sum_below
 sum_below-more n f = sum_by-map-range_with_len_more (λ x. x) f 0 n n (omega arith)
 
+-- the same at a successor
 pub sum_below-suc : (n : ℕ) (f : ℕ → ℕ) → sum_below (suc n) f ≡ sum_below n f + f n
 sum_below-suc n f = simp add-one at (sum_below-more n f)
 
@@ -34,6 +37,7 @@ sum_below-le zero f g h = omega (arith, sum_below-zero f)
 sum_below-le (suc n) f g h =
     omega (arith, sum_below-suc n f, sum_below-suc n g, sum_below-le n f g (λ k l. h k (omega arith)), h n (omega arith))
 
+-- sums of terms that agree
 pub sum_below-same : (n : ℕ) (f g : ℕ → ℕ) → ((k : ℕ) → k < n → f k ≡ g k) → sum_below n f ≡ sum_below n g
 sum_below-same n f g h = omega (
   arith,
@@ -41,6 +45,7 @@ sum_below-same n f g h = omega (
   sum_below-le n g f (λ k l. omega (arith, h k l)),
 )
 
+-- the sum of sums
 pub sum_below-add : (n : ℕ) (f g : ℕ → ℕ) → sum_below n (λ k. f k + g k) ≡ sum_below n f + sum_below n g
 sum_below-add zero f g = omega (arith, sum_below-zero f, sum_below-zero g, sum_below-zero (λ k. f k + g k))
 sum_below-add (suc n) f g =
@@ -59,6 +64,7 @@ sum_below-le-sum_by_take f g xs (suc n) len h = omega (
   simp add-one at (sum_by_more g xs n 0 (omega arith)),
 )
 
+-- a sum by places is at most that over a list with terms as large
 pub sum_below-le-sum_by : (f g : ℕ → ℕ) (xs : List ℕ) → ((k : ℕ) → k < length xs → f k ≤ g (get_or xs k 0))
     → sum_below (length xs) f ≤ sum_by g xs
 sum_below-le-sum_by f g xs h =
@@ -76,6 +82,7 @@ sum_by_take-le-sum_below f g xs (suc n) len h = omega (
   simp add-one at (sum_by_more g xs n 0 (omega arith)),
 )
 
+-- and the other way round
 pub sum_by-le-sum_below : (f g : ℕ → ℕ) (xs : List ℕ) → ((k : ℕ) → k < length xs → g (get_or xs k 0) ≤ f k)
     → sum_by g xs ≤ sum_below (length xs) f
 sum_by-le-sum_below f g xs h =
@@ -90,6 +97,7 @@ ones-digit a h =
     let none : count_ones 0 ≡ 0 = omega (arith, ones-le 0 0 (lit< tt)) in
     omega (arith, ones_step a, ap (λ x. count_ones x) half, none)
 
+-- a set has as many members as it has bits
 pub ones-sum : (n set : ℕ) → set < 2 ^ n → count_ones set ≡ sum_below n (λ k. bit set k)
 ones-sum zero set h = omega (arith, ones-le 0 set h, sum_below-zero (λ k. bit set k))
 ones-sum (suc n) set h =

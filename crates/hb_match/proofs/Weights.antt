@@ -42,6 +42,7 @@ unfolding weight
 sum_below-le-weight n w f xs small h = sum_below-le-sum_by f (within n w) xs
     (λ k l. omega (arith, h k l, within-below n w (get_or xs k 0) (small k l)))
 
+-- the weight of a list is at most a sum of terms as large
 pub weight-le-sum_below : (n : ℕ) (w f : ℕ → ℕ) (xs : List ℕ) → ((k : ℕ) → k < length xs → w (get_or xs k 0) ≤ f k)
     → weight n w xs ≤ sum_below (length xs) f
 unfolding weight
@@ -54,6 +55,7 @@ sum_below-one : (n : ℕ) (w : ℕ → ℕ) (x : ℕ) → sum_below n (λ k. w k
 sum_below-one zero w x = omega (arith, sum_below-zero (λ k. w k * one x k), within-zero w x)
 sum_below-one (suc n) w x = omega (arith, sum_below-suc n (λ k. w k * one x k), sum_below-one n w x, within-suc n w x)
 
+-- of the places below n one is x
 pub sum_below-one_at : (n x : ℕ) → x < n → sum_below n (λ k. one x k) ≡ 1
 sum_below-one_at n x h =
     let once = sum_below-same n (λ k. one x k) (λ k. 1 * one x k) (λ k l. omega arith) in
@@ -72,6 +74,7 @@ weight-uses_cons n w x xs =
     let split = sum_below-same n (λ k. w k * uses (x ∷ xs) k) (λ k. w k * one x k + w k * uses xs k) each in
     omega (arith, split, sum_below-add n (λ k. w k * one x k) (λ k. w k * uses xs k), sum_below-one n w x)
 
+-- the weight of a list, by the copies that it uses
 pub weight-uses : (n : ℕ) (w : ℕ → ℕ) (xs : List ℕ) → weight n w xs ≡ sum_below n (λ k. w k * uses xs k)
 unfolding weight
 weight-uses n w [] = omega (arith, weight-uses_nil n w)

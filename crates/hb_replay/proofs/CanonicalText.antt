@@ -28,9 +28,10 @@ plain-replay r = IsPlain-object 2 _
     (λ act. IsPlain-action_data act.who act.action) (reverse r.game.past)) (ArePlain-no_members 2))))))
 
 -- the bytes that are written for the value are the canonical text
-pub canonical : (r : Contents) (d : Data) (bytes out : List ℕ) → d ≡ replay_data r → (has_float d ≡ false → bytes ≡ compact_text d)
+pub canonical_text-is : (r : Contents) (d : Data) (bytes out : List ℕ) → d ≡ replay_data r → (has_float d ≡ false → bytes ≡ compact_text d)
     → out ≡ bytes → out ≡ canonical_text r
-canonical r d bytes out e text o = let exact : has_float d ≡ false = rw e ((plain-replay r).exact) in o ∙ (text exact ∙ ap compact_text e)
+canonical_text-is r d bytes out e text o =
+    let exact : has_float d ≡ false = rw e ((plain-replay r).exact) in o ∙ (text exact ∙ ap compact_text e)
 
 -- and are read as the replay
 pub reads-back : (r : Contents) (d : Data) (bytes out : List ℕ) → IsReplay r → d ≡ replay_data r → IsUtf8 bytes

@@ -12,15 +12,15 @@ use Rattle.hb_replay.specs.WrittenReplay.{act_of, game_options, contents_of}
 use Rattle.hb_replay.specs.ReplayOf.{Leads}
 use Rattle.hb_replay.specs.Refusals.{game_in}
 use Rattle.hb_replay.proofs.ReplayOfLemmas.{may-start}
-use Rattle.hb_replay.proofs.DeckTest.{deck-from}
-use Rattle.hb_replay.proofs.Found.{Found, found}
+use Rattle.hb_rules.proofs.IsDeal.{deck-is}
+use Rattle.hb_replay.proofs.Found.{Found, game_in-found}
 use Rattle.hb_replay.proofs.LeadsLemmas.{played-leads, leads-setup}
 
-untimed : (timed : Bool) (time default : ℕ) → timed ≡ false → (if timed then time else default) ≡ default
-untimed timed time default h = rw h refl
+if-untimed : (timed : Bool) (time default : ℕ) → timed ≡ false → (if timed then time else default) ≡ default
+if-untimed timed time default h = rw h refl
 
 has-times : (w : WrittenOptions) → HasTimes (game_options w)
-has-times w h = (untimed w.modes.timed w.modes.base_s 120 h, untimed w.modes.timed w.modes.per_turn_s 20 h)
+has-times w h = (if-untimed w.modes.timed w.modes.base_s 120 h, if-untimed w.modes.timed w.modes.per_turn_s 20 h)
 
 -- the setup that the game was started with
 pub same-setup : (w : WrittenReplay) (q : Position) (h : Found w q)
@@ -51,10 +51,10 @@ is-played w q h =
     let e : q.setup ≡ with_deck h.variant (game_options w.options) (length w.players) w.deck = same-setup w q h in
     let options : are_options (length w.players) (game_options w.options) ≡ true = may-start (length w.players) w.options h.options in
     record {
-      can = rw e (record { players = h.players; options = options; full = deck-from h.variant w.deck h.deck });
+      can = rw e (record { players = h.players; options = options; full = deck-is h.variant w.deck h.deck });
       legal = leads-legal start w.actions q tt (played-leads 0 start w.actions q h.acts);
     }
 
 -- what is read is a replay
 pub is-replay : (w : WrittenReplay) (q : Position) → game_in w ≡ Ok q → IsReplay (contents_of w q)
-is-replay w q e = let all = found w q e in record { matches = matches-found w q all; played = is-played w q all }
+is-replay w q e = let all = game_in-found w q e in record { matches = matches-found w q all; played = is-played w q all }

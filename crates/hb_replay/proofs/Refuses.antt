@@ -7,7 +7,7 @@ use Rattle.serde_json.specs.Data.{Data, Items, no_items, item}
 use Rattle.hb_json.specs.Results.{◌>>=◌, found_or, must}
 use Rattle.hb_replay.specs.Shape.{each_at}
 use Rattle.hb_replay.specs.RefusalOf.{row, ◌otherwise◌, members_rows}
-use Rattle.hb_replay.proofs.SaysLemmas.{nothing}
+use Rattle.hb_replay.proofs.ValueKinds.{none-is_some}
 
 -- the rows say which errors there are
 abbrev pub Refuses : {A F : Type 0} → (F → Type 0) → Result A F → Type 0
@@ -66,7 +66,7 @@ refuses-none P x none e = (λ h. absurd (none e h), λ h. absurd (not-err x e h)
 -- what has to be there
 pub refuses-found : {A F : Type 0} (refused : F) (R : A → Type 0) (o : Option A) → ((x : A) → R x ↔ (o ≡ Some x))
     → Refuses (row refused (((x : A) × R x) → ⊥)) (found_or refused o)
-refuses-found refused R None same e = (λ h. rw h.1 refl, λ h. (λ s. nothing s.0 ((same s.0).0 s.1), sym (same-err refused e h)))
+refuses-found refused R None same e = (λ h. rw h.1 refl, λ h. (λ s. none-is_some s.0 ((same s.0).0 s.1), sym (same-err refused e h)))
 refuses-found refused R (Some x) same e = (λ h. absurd (h.0 (x, (same x).1 refl)), λ h. absurd (not-err x e h))
 
 -- what must hold
@@ -114,6 +114,6 @@ refuses-last-if false refused Holds x same e = (λ h. absurd (clash (same.0 h.0)
     clash f = cc
 
 -- the steps of a step are steps
-pub ungroup : {A B C F : Type 0} (m : Result A F) (f : A → Result B F) (g : B → Result C F) → ((m >>= f) >>= g) ≡ (m >>= λ x. (f x >>= g))
-ungroup (Ok x) f g = refl
-ungroup (Err x) f g = refl
+pub bind-bind : {A B C F : Type 0} (m : Result A F) (f : A → Result B F) (g : B → Result C F) → ((m >>= f) >>= g) ≡ (m >>= λ x. (f x >>= g))
+bind-bind (Ok x) f g = refl
+bind-bind (Err x) f g = refl

@@ -22,11 +22,11 @@ use Rattle.hb_replay.specs.Refusals.{replay_of}
 use Rattle.hb_json.specs.Values.{action_data, options_data}
 use Rattle.hb_json.proofs.OptionsData.{modes_of, SaysBack-options_data}
 use Rattle.hb_replay.specs.Canonical.{card_data, act_data, notes_data, replay_data}
-use Rattle.hb_replay.proofs.DeckTest.{deck-to}
-use Rattle.hb_replay.proofs.Found.{Found, gives}
+use Rattle.hb_rules.proofs.IsDeal.{deck-tests}
+use Rattle.hb_replay.proofs.Found.{Found, game_in-gives}
 use Rattle.hb_replay.proofs.LeadsLemmas.{written_action, written_act, legal-leads, leads-played}
 use Rattle.hb_replay.proofs.IsByteAct.{Every, IsByteCard, IsByteAction, IsByteAct, byte-cards, byte-acts}
-use Rattle.hb_replay.proofs.ReplayOfLemmas.{allowed}
+use Rattle.hb_replay.proofs.ReplayOfLemmas.{are_options-allowed}
 
 -- a list whose items read back reads back
 each-back : {X Y E : Type 0} (f : ℕ → Data → Result Y E) (g : X → Data) (h : X → Y) (P : X → Type 0)
@@ -49,28 +49,28 @@ note-list-back k texts = each-same (note_at k) string (λ j s. refl) 0 texts
 notes-back : (notes : List (List (List ℕ))) → notes_of (Some (notes_data notes)) ≡ Ok notes
 notes-back notes = each-same note_list_at texts_data note-list-back 0 notes
 
-small : (n : ℕ) → n < 256 → nat_lt n 256 ≡ true
-small n h = grind arith
+nat_lt-byte : (n : ℕ) → n < 256 → nat_lt n 256 ≡ true
+nat_lt-byte n h = grind arith
 
 map-same : {X : Type 0} (xs : List X) → map (λ x. x) xs ≡ xs
 map-same [] = refl
 map-same (x ∷ xs) = rw (map-same xs) refl
 
 card-back : (k : ℕ) (id : Identity) → IsByteCard id → card_at k (card_data id) ≡ Ok id
-card-back k id h = rw (small id.suit h.0, small id.rank h.1) refl
+card-back k id h = rw (nat_lt-byte id.suit h.0, nat_lt-byte id.rank h.1) refl
 
 cards-back : (cards : List Identity) → Every IsByteCard cards → cards_of (items_of (map card_data cards)) ≡ Ok cards
 cards-back cards all = rw (each-back card_at card_data (λ id. id) IsByteCard card-back 0 cards all, map-same cards) refl
 
 action-back : (k who : ℕ) (a : Action) → IsByteAction who a → action_at k (action_data who a) ≡ Ok (written_action who a)
-action-back k who (action.Play order) h = rw (small order h) refl
-action-back k who (action.Discard order) h = rw (small order h) refl
-action-back k who (action.Clue to (clue.Color c)) h = rw (small to h.0, small c h.1) refl
-action-back k who (action.Clue to (clue.Rank r)) h = rw (small to h.0, small r h.1) refl
-action-back k who (action.End Normal) h = rw (small who h) refl
-action-back k who (action.End Strikeout) h = rw (small who h) refl
-action-back k who (action.End Timeout) h = rw (small who h) refl
-action-back k who (action.End Terminated) h = rw (small who h) refl
+action-back k who (action.Play order) h = rw (nat_lt-byte order h) refl
+action-back k who (action.Discard order) h = rw (nat_lt-byte order h) refl
+action-back k who (action.Clue to (clue.Color c)) h = rw (nat_lt-byte to h.0, nat_lt-byte c h.1) refl
+action-back k who (action.Clue to (clue.Rank r)) h = rw (nat_lt-byte to h.0, nat_lt-byte r h.1) refl
+action-back k who (action.End Normal) h = rw (nat_lt-byte who h) refl
+action-back k who (action.End Strikeout) h = rw (nat_lt-byte who h) refl
+action-back k who (action.End Timeout) h = rw (nat_lt-byte who h) refl
+action-back k who (action.End Terminated) h = rw (nat_lt-byte who h) refl
 
 actions-back : (acts : List Act) → Every IsByteAct acts → actions_of (items_of (map act_data acts)) ≡ Ok (map written_act acts)
 actions-back acts all = each-back action_at act_data written_act IsByteAct (λ k act h. action-back k act.who act.action h) 0 acts all
@@ -94,9 +94,9 @@ written_replay r = record {
   notes = r.notes;
 }
 
-empty : {X : Type 0} (xs : List X) → not (length xs == 0) ≡ false → xs ≡ []
-empty [] e = refl
-empty (x ∷ xs) e = absurd (grind arith)
+length-zero : {X : Type 0} (xs : List X) → not (length xs == 0) ≡ false → xs ≡ []
+length-zero [] e = refl
+length-zero (x ∷ xs) e = absurd (grind arith)
 
 shape-back : (r : Contents) → Every IsByteCard r.game.setup.deck.items → Every IsByteAct (reverse r.game.past)
     → shape_of (replay_data r) ≡ Ok (written_replay r)
@@ -121,7 +121,7 @@ shape-back r cards acts = pick (not (length r.notes == 0)) refl
       cards-back r.game.setup.deck.items cards,
       actions-back (reverse r.game.past) acts,
       options-back r.name o,
-      empty r.notes e,
+      length-zero r.notes e,
     ) refl
 
 -- the options of a replay are those that are written
@@ -147,8 +147,8 @@ found-back r h =
       players = rw seats h.played.can.players;
       variant = r.game.setup.variant;
       named = h.matches.named;
-      options = allowed (length r.players) (written_options r.name o) can refl;
-      deck = deck-to r.game.setup.variant r.game.setup.deck.items h.played.can.full;
+      options = are_options-allowed (length r.players) (written_options r.name o) can refl;
+      deck = deck-tests r.game.setup.variant r.game.setup.deck.items h.played.can.full;
       acts = rw (seats, same)
           (leads-played 0 _ (map written_act (reverse r.game.past)) r.game (legal-leads r.game.setup r.game.past h.played.legal));
       notes = h.matches.notes;
@@ -161,5 +161,5 @@ replay-back r h =
     rw (
       shape-back r (byte-cards r.game.setup.variant r.game.setup.deck.items can.full)
           (byte-acts r.game.setup r.game.past can h.played.legal),
-      gives (written_replay r) r.game (found-back r h),
+      game_in-gives (written_replay r) r.game (found-back r h),
     ) refl

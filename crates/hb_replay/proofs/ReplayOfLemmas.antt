@@ -29,10 +29,12 @@ use Rattle.hb_replay.specs.Refusals.{game_in, shaped, replay_of}
 use Rattle.hb_replay.specs.ReplayReading.{ReadsAs, Gives}
 use Rattle.hb_replay.specs.Says.{IsText, IsWhole, IsFlag, IsCard, IsAction, SaysOption, SaysOptions, AreOptions, Says}
 use Rattle.hb_replay.specs.ReplayOf.{ReplayOf}
-use Rattle.hb_replay.proofs.DeckTest.{deck-to, deck-from}
-use Rattle.hb_replay.proofs.Found.{never, same-ok, step, Allowed, Found, found, gives}
+use Rattle.hb_rules.proofs.IsDeal.{deck-tests, deck-is}
+use Rattle.hb_replay.proofs.Found.{err-is_ok, same-ok, bind-ok, Allowed, Found, game_in-found, game_in-gives}
 use Rattle.hb_replay.proofs.LeadsLemmas.{leads-played, played-leads}
-use Rattle.hb_replay.proofs.SaysLemmas.{object-is, object-there, list-to, list-from, player-to, player-from, card-to, card-from, action-to, action-from, or-to, or-from, text-to, text-from, whole-to, whole-from, flag-to, flag-from, notes-to, notes-from, others-to, others-from}
+use Rattle.hb_replay.proofs.ValueKinds.{object-is, object-there}
+use Rattle.hb_replay.proofs.ActionShapes.{action-to, action-from}
+use Rattle.hb_replay.proofs.SaysLemmas.{list-to, list-from, player-to, player-from, card-to, card-from, or-to, or-from, text-to, text-from, whole-to, whole-from, flag-to, flag-from, notes-to, notes-from, others-to, others-from}
 
 -- an option of an object
 text-option : (key : OptionKey) (default s : List ℕ) (ms : Members) → SaysOption key default IsText ms s
@@ -64,7 +66,7 @@ option-flag key b ms h = or-from false
 
 shape-ok : {X : Type 0} (m : Result X OptionKey) (x : X) → option_shape m ≡ Ok x → m ≡ Ok x
 shape-ok (Ok y) x h = let e : y ≡ x = same-ok y x h in rw e refl
-shape-ok (Err key) x h = absurd (never (option_place key) x h)
+shape-ok (Err key) x h = absurd (err-is_ok (option_place key) x h)
 
 -- the options of an object
 object-to : (ms : Members) (o : WrittenOptions) → SaysOptions ms o → options_in (object ms) ≡ Ok o
@@ -91,12 +93,12 @@ record SaysModes (ms : Members) (m : WrittenModes) : Type 0 where
 
 modes-from : (ms : Members) (m : WrittenModes) → modes_in (object ms) ≡ Ok m → SaysModes ms m
 modes-from ms m h =
-    step (flag_in option.EmptyClues (object ms)) _ m h (λ empty_clues e3 h3.
-    step (flag_in option.OneExtraCard (object ms)) _ m h3 (λ extra_card e4 h4.
-    step (flag_in option.OneLessCard (object ms)) _ m h4 (λ less_card e5 h5.
-    step (flag_in option.Timed (object ms)) _ m h5 (λ timed e6 h6.
-    step (option_in whole_of option.TimeBase 120 (object ms)) _ m h6 (λ base_s e7 h7.
-    step (option_in whole_of option.TimePerTurn 20 (object ms)) _ m h7 (λ per_turn_s e8 h8.
+    bind-ok (flag_in option.EmptyClues (object ms)) _ m h (λ empty_clues e3 h3.
+    bind-ok (flag_in option.OneExtraCard (object ms)) _ m h3 (λ extra_card e4 h4.
+    bind-ok (flag_in option.OneLessCard (object ms)) _ m h4 (λ less_card e5 h5.
+    bind-ok (flag_in option.Timed (object ms)) _ m h5 (λ timed e6 h6.
+    bind-ok (option_in whole_of option.TimeBase 120 (object ms)) _ m h6 (λ base_s e7 h7.
+    bind-ok (option_in whole_of option.TimePerTurn 20 (object ms)) _ m h7 (λ per_turn_s e8 h8.
     let all : WrittenModes = record {
       empty_clues = empty_clues;
       extra_card = extra_card;
@@ -119,9 +121,9 @@ modes-from ms m h =
 object-from : (ms : Members) (w : WrittenOptions) → options_in (object ms) ≡ Ok w → SaysOptions ms w
 unfolding options_in
 object-from ms w h =
-    step (option_shape (variant_in (object ms))) _ w h (λ variant e1 h1.
-    step (option_shape (starting_in (object ms))) _ w h1 (λ starting e2 h2.
-    step (option_shape (modes_in (object ms))) _ w h2 (λ modes e3 h3.
+    bind-ok (option_shape (variant_in (object ms))) _ w h (λ variant e1 h1.
+    bind-ok (option_shape (starting_in (object ms))) _ w h1 (λ starting e2 h2.
+    bind-ok (option_shape (modes_in (object ms))) _ w h2 (λ modes e3 h3.
     let all : WrittenOptions = record { variant = variant; starting = starting; modes = modes; other = first_other ms } in
     let e : w ≡ all = sym (same-ok all w h3) in
     let m = modes-from ms modes (shape-ok (modes_in (object ms)) modes e3) in
@@ -160,7 +162,7 @@ options-from found o h = pick (present found) refl
 
         within : (m : Option Members) → as_object d ≡ m → AreOptions (Some d) o
         within (Some ms) t = let is : d ≡ object ms = object-is d ms t in (ms, is, object-from ms o (rw is at read))
-        within None t = absurd (never (part_place part.Options) o (rw t at read))
+        within None t = absurd (err-is_ok (part_place part.Options) o (rw t at read))
 
 -- no option of a game that may start is refused, and what is not refused may start
 no-fault : (n starting base turn : ℕ) (e x l t : Bool) →
@@ -170,35 +172,36 @@ no-fault n starting base turn e x l true h = (grind arith, grind arith)
 no-fault n starting base turn e x l false h = (grind arith, grind arith)
 
 -- no option of a game that may start is refused
-pub allowed : (n : ℕ) (w : WrittenOptions) → are_options n (game_options w) ≡ true → w.other ≡ None → Allowed n w
-allowed n w h none =
+pub are_options-allowed : (n : ℕ) (w : WrittenOptions) → are_options n (game_options w) ≡ true → w.other ≡ None → Allowed n w
+are_options-allowed n w h none =
     let m : WrittenModes = w.modes in
     let both = no-fault n w.starting m.base_s m.per_turn_s m.empty_clues m.extra_card m.less_card m.timed h in
     record { seat = both.0; modes = both.1; other = none }
 
-chain : (a b c : Bool) (x y z : OptionFault) → cond a (Some x) (cond b (Some y) (cond c (Some z) None)) ≡ None
+cond-chain : (a b c : Bool) (x y z : OptionFault) → cond a (Some x) (cond b (Some y) (cond c (Some z) None)) ≡ None
     → (a ≡ false) × (b ≡ false) × (c ≡ false)
-chain a b c x y z h = grind arith
+cond-chain a b c x y z h = grind arith
 
-fits : (n starting base turn : ℕ) (e x l t : Bool) → nat_lt starting n ≡ true → (x && l) ≡ false → (t && nat_lt 1000000 base) ≡ false
+modes_fault-none : (n starting base turn : ℕ) (e x l t : Bool) → nat_lt starting n ≡ true → (x && l) ≡ false
+    → (t && nat_lt 1000000 base) ≡ false
     → (t && nat_lt 1000000 turn) ≡ false
     → (let m : WrittenModes = record { empty_clues = e; extra_card = x; less_card = l; timed = t; base_s = base; per_turn_s = turn } in
     are_options n (options_with starting m) ≡ true)
-fits n starting base turn e x l true a b c d = grind arith
-fits n starting base turn e x l false a b c d = grind arith
+modes_fault-none n starting base turn e x l true a b c d = grind arith
+modes_fault-none n starting base turn e x l false a b c d = grind arith
 
 -- options that are not refused may start a game
 pub may-start : (n : ℕ) (w : WrittenOptions) → Allowed n w → are_options n (game_options w) ≡ true
 may-start n w h =
     let m : WrittenModes = w.modes in
-    let all = chain (m.extra_card && m.less_card) (m.timed && nat_lt 1000000 m.base_s)
+    let all = cond-chain (m.extra_card && m.less_card) (m.timed && nat_lt 1000000 m.base_s)
     (m.timed && nat_lt 1000000 m.per_turn_s) mode.OneLessCard mode.TimeBase mode.TimePerTurn h.modes in
-    fits n w.starting m.base_s m.per_turn_s m.empty_clues m.extra_card m.less_card m.timed h.seat all.0 all.1 all.2
+    modes_fault-none n w.starting m.base_s m.per_turn_s m.empty_clues m.extra_card m.less_card m.timed h.seat all.0 all.1 all.2
 
 -- what is shaped was found
 pub shaped-ok : (r : Result WrittenReplay Place) (w : WrittenReplay) → shaped r ≡ Ok w → r ≡ Ok w
 shaped-ok (Ok v) w h = let e : v ≡ w = same-ok v w h in rw e refl
-shaped-ok (Err place) w h = absurd (never (fault.Shape place) w h)
+shaped-ok (Err place) w h = absurd (err-is_ok (fault.Shape place) w h)
 
 -- the steps find what a value of the right shape says
 pub shape-to : (d : Data) (w : WrittenReplay) → Says d w → shape_of d ≡ Ok w
@@ -218,12 +221,12 @@ shape-to d w h =
 pub shape-from : (d : Data) (w : WrittenReplay) → shape_of d ≡ Ok w → Says d w
 unfolding shape_of
 shape-from d w h =
-    step (found_or (part_place part.Root) (as_object d)) _ w h (λ ms there h0.
-    step (list_at (part_place part.Players) (get (codes "players") d) >>= players_of) _ w h0 (λ players e1 h1.
-    step (list_at (part_place part.Deck) (get (codes "deck") d) >>= cards_of) _ w h1 (λ deck e2 h2.
-    step (list_at (part_place part.Actions) (get (codes "actions") d) >>= actions_of) _ w h2 (λ actions e3 h3.
-    step (options_of (get (codes "options") d)) _ w h3 (λ options e4 h4.
-    step (notes_of (get (codes "notes") d)) _ w h4 (λ notes e5 h5.
+    bind-ok (found_or (part_place part.Root) (as_object d)) _ w h (λ ms there h0.
+    bind-ok (list_at (part_place part.Players) (get (codes "players") d) >>= players_of) _ w h0 (λ players e1 h1.
+    bind-ok (list_at (part_place part.Deck) (get (codes "deck") d) >>= cards_of) _ w h1 (λ deck e2 h2.
+    bind-ok (list_at (part_place part.Actions) (get (codes "actions") d) >>= actions_of) _ w h2 (λ actions e3 h3.
+    bind-ok (options_of (get (codes "options") d)) _ w h3 (λ options e4 h4.
+    bind-ok (notes_of (get (codes "notes") d)) _ w h4 (λ notes e5 h5.
     let all : WrittenReplay = record { players = players; deck = deck; actions = actions; options = options; notes = notes } in
     let e : w ≡ all = sym (same-ok all w h5) in
     rw e (record {
@@ -243,19 +246,19 @@ replay-to d r h =
       players = can.players;
       variant = h.variant;
       named = h.named;
-      options = allowed (length w.players) w.options can.options h.understood;
-      deck = deck-to h.variant w.deck can.full;
+      options = are_options-allowed (length w.players) w.options can.options h.understood;
+      deck = deck-tests h.variant w.deck can.full;
       acts = leads-played 0 (started h.variant (game_options w.options) (length w.players) w.deck) w.actions h.game h.acts;
       notes = h.few;
     } in
-    rw h.is (rw (shape-to d w h.says, gives w h.game all) refl)
+    rw h.is (rw (shape-to d w h.says, game_in-gives w h.game all) refl)
 
 -- and back
 pub replay-from : (d : Data) (r : Contents) → replay_of d ≡ Ok r → ReplayOf d r
 replay-from d r h =
-    step (shaped (shape_of d)) _ r h (λ w e1 h1.
-    step (game_in w) _ r h1 (λ q e2 h2.
-    let all = found w q e2 in
+    bind-ok (shaped (shape_of d)) _ r h (λ w e1 h1.
+    bind-ok (game_in w) _ r h1 (λ q e2 h2.
+    let all = game_in-found w q e2 in
     record {
       written = w;
       says = shape-from d w (shaped-ok (shape_of d) w e1);
@@ -266,7 +269,7 @@ replay-from d r h =
         players = all.players;
         options = may-start
             (length w.players) w.options all.options;
-        full = deck-from all.variant w.deck all.deck;
+        full = deck-is all.variant w.deck all.deck;
       };
       game = q;
       acts = played-leads 0 (started all.variant (game_options w.options) (length w.players) w.deck) w.actions q all.acts;

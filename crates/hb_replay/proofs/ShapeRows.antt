@@ -24,7 +24,8 @@ use Rattle.hb_replay.specs.Shape.{each_at, list_at, number_at, player_at, card_a
 use Rattle.hb_replay.specs.Says.{IsText, IsWhole, IsFlag, HasBelow, HasByte}
 use Rattle.hb_replay.specs.RefusalOf.{row, ◌otherwise◌, members_rows, list_rows, present_rows, IsObject, IsSomeText, IsSomeWhole, IsSomeFlag, HasNoBelow, player_rows, card_rows, HasWrongValue, action_rows, option_rows, options_rows, note_rows, note_list_rows, notes_rows, shape_rows}
 use Rattle.hb_replay.proofs.Found.{found_or-ok}
-use Rattle.hb_replay.proofs.SaysLemmas.{nothing, same-some, text-is, flag-is, list-is, object-is, whole-is, below-is, end-to, end-from}
+use Rattle.hb_replay.proofs.ValueKinds.{none-is_some, same-some, text-is, flag-is, list-is, object-is, whole-is, below-is}
+use Rattle.hb_replay.proofs.EndNumbers.{end-to, end-from}
 use Rattle.hb_replay.proofs.Refuses.{Refuses, same-err, refuses-then, refuses-map, refuses-none, refuses-found, refuses-known, refuses-each}
 
 -- values by their kinds
@@ -48,7 +49,7 @@ there-below : (n : ℕ) (key : List ℕ) (d : Data) (m : ℕ) → option_and_the
 there-below n key d m h = pick (get key d) refl
   where
     pick : (o : Option Data) → get key d ≡ o → HasBelow n key d m
-    pick None e = absurd (nothing m (rw e at h))
+    pick None e = absurd (none-is_some m (rw e at h))
     pick (Some v) e = let is = below-is n m v (rw e at h) in (rw (e, is.0) refl, is.1)
 
 refuses-number : (place : Place) (n : ℕ) (key : List ℕ) (d : Data)
@@ -61,7 +62,7 @@ array-there : (found : Option Data) (ds : Items) → found ≡ Some (array ds) �
 array-there found ds h = rw h refl
 
 there-array : (found : Option Data) (ds : Items) → option_and_then as_array found ≡ Some ds → found ≡ Some (array ds)
-there-array None ds h = absurd (nothing ds h)
+there-array None ds h = absurd (none-is_some ds h)
 there-array (Some d) ds h = let is : d ≡ array ds = list-is d ds h in rw is refl
 
 same-items : (found : Option Data) (ds es : Items) → found ≡ Some (array ds) → option_and_then as_array found ≡ Some es → ds ≡ es
@@ -84,7 +85,7 @@ refuses-list place Rows f each found =
 refuses-absent : {X : Type 0} (default : X) (Rows : Data → Place → Type 0) (f : Data → Result X Place)
     → ((d : Data) → Refuses (Rows d) (f d)) → (o : Option Data)
     → Refuses (λ e. (d : Data) × (o ≡ Some d) × Rows d e) (absent_or default f o)
-refuses-absent default Rows f each None = refuses-none _ default (λ e h. nothing h.0 h.1)
+refuses-absent default Rows f each None = refuses-none _ default (λ e h. none-is_some h.0 h.1)
 refuses-absent default Rows f each (Some d) = refuses-known (λ c. Some d ≡ Some c) Rows d (f d) refl (λ c h. sym (same-some d c h)) (each d)
 
 -- players and cards
@@ -126,16 +127,16 @@ wrong-clue d kind said low clue = (λ h. inl (clue, h), back)
     back (inl h) = h.1
     back (inr h) = let e : 4 ≡ kind = one-kind d 4 kind h.0 said in absurd (omega arith)
 
-apart : (n m : ℕ) → n < m → n ≡ m → ⊥
-apart n m low same = absurd (omega (arith, low, same))
+lt-irreflexive : (n m : ℕ) → n < m → n ≡ m → ⊥
+lt-irreflexive n m low same = absurd (omega (arith, low, same))
 
 wrong-end : (d : Data) → get (codes "type") d ≡ Some (whole 4)
     → (((how : EndHow) × HasByte (codes "value") d (end_number how)) → ⊥) ↔ HasWrongValue d
 wrong-end d said = (λ h. inr ((said, omega arith), h), back)
   where
     no-clue : HasByte (codes "type") d 2 ⊎ HasByte (codes "type") d 3 → ⊥
-    no-clue (inl t) = apart 2 4 (omega arith) (one-kind d 2 4 t said)
-    no-clue (inr t) = apart 3 4 (omega arith) (one-kind d 3 4 t said)
+    no-clue (inl t) = lt-irreflexive 2 4 (omega arith) (one-kind d 2 4 t said)
+    no-clue (inr t) = lt-irreflexive 3 4 (omega arith) (one-kind d 3 4 t said)
 
     back : HasWrongValue d → ((how : EndHow) × HasByte (codes "value") d (end_number how)) → ⊥
     back (inl h) = absurd (no-clue h.0)
@@ -147,7 +148,7 @@ refuses-end : {B : Type 0} (place : Place) (R : ℕ → Type 0) (g : EndHow → 
 refuses-end place R g None same e = (
   λ h. rw h.1 refl,
   λ h. (
-    λ s. nothing (end_number s.0) ((same (end_number s.0)).0 s.1),
+    λ s. none-is_some (end_number s.0) ((same (end_number s.0)).0 s.1),
     sym (same-err place e h),
   ),
 )
@@ -206,7 +207,7 @@ refuses-option : {X : Type 0} (key : OptionKey) (default : X) (IsRight : Data �
     → ((d : Data) → Refuses (row (option_place key) (IsRight d → ⊥)) (found_or (option_place key) (as_type d))) → (o : Option Data)
     → Refuses (λ e. (d : Data) × (o ≡ Some d) × row (option_place key) (IsRight d
     → ⊥) e) (option_shape (absent_or default (λ v. found_or key (as_type v)) o))
-refuses-option key default IsRight as_type right None = refuses-none _ default (λ e h. nothing h.0 h.1)
+refuses-option key default IsRight as_type right None = refuses-none _ default (λ e h. none-is_some h.0 h.1)
 refuses-option key default IsRight as_type right (Some d) =
     refuses-known (λ c. Some d ≡ Some c) (λ c. row (option_place key) (IsRight c → ⊥)) d _ refl
     (λ c h. sym (same-some d c h)) (rw (shape-found key (as_type d)) (right d))
@@ -256,7 +257,7 @@ refuses-options-in d =
 refuses-options-or : (o : Option Data)
     → Refuses (λ e. (d : Data) × (o ≡ Some d) × options_rows d e) (options_in (unwrap_or o (object no_members)))
 unfolding options_in
-refuses-options-or None = refuses-none _ _ (λ e h. nothing h.0 h.1)
+refuses-options-or None = refuses-none _ _ (λ e h. none-is_some h.0 h.1)
 refuses-options-or (Some d) = refuses-known (λ c. Some d ≡ Some c) options_rows d (options_in d) refl
     (λ c h. sym (same-some d c h)) (refuses-options-in d)
 

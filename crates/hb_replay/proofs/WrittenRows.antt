@@ -12,7 +12,7 @@ use Rattle.hb_json.specs.WrittenModes.{modes_fault, options_with, unless_fault}
 use Rattle.hb_rules.specs.declared.acts.Options.{Options}
 use Rattle.hb_rules.specs.declared.acts.Rule.{Rule}
 use Rattle.hb_rules.specs.declared.variants.Variant.{Variant}
-use Rattle.hb_rules.specs.Cards.{IsDeck}
+use Rattle.hb_rules.specs.Cards.{IsDeck, is_deck}
 use Rattle.hb_rules.specs.Positions.{after, rule}
 use Rattle.hb_rules.specs.Setup.{Position}
 use Rattle.hb_rules.specs.Start.{are_players, started}
@@ -26,17 +26,18 @@ use Rattle.hb_replay.specs.declared.written.WrittenReplay.{WrittenReplay}
 use Rattle.hb_replay.specs.Contents.{Contents, notes_fit}
 use Rattle.hb_replay.specs.ReplayReading.{Gives, IsRefusal, ReadsAs}
 use Rattle.hb_replay.specs.Places.{index}
-use Rattle.hb_replay.specs.Refusals.{in_range, no_other, is_deck, options_for, opening, played, game_in, shaped, replay_in, replay_of}
+use Rattle.hb_replay.specs.Refusals.{in_range, no_other, options_for, opening, played, game_in, shaped, replay_in, replay_of}
 use Rattle.hb_replay.specs.RefusalOf.{row, ◌otherwise◌, shape_rows, mode_rows, other_rows, Breaks, broken_rows, played_rows, written_rows, RefusalOf}
 use Rattle.hb_replay.specs.Says.{Says}
 use Rattle.hb_replay.specs.Shape.{shape_of}
 use Rattle.hb_replay.specs.WrittenReplay.{game_options, opened, act_of, says_end, contents_of}
 use Rattle.hb_replay.proofs.ReplayOfLemmas.{shape-to, shape-from, shaped-ok}
-use Rattle.hb_replay.proofs.DeckTest.{deck-to, deck-not}
+use Rattle.hb_rules.proofs.IsDeal.{deck-tests}
+use Rattle.hb_replay.proofs.DeckTest.{deck-not}
 use Rattle.hb_replay.proofs.Found.{same-ok, found_or-ok, modes-ok, opening-ok}
 use Rattle.hb_replay.proofs.ShapeRows.{refuses-shape}
-use Rattle.hb_replay.proofs.Refuses.{Refuses, same-err, not-err, refuses-then, refuses-map, refuses-none, refuses-must, refuses-known, refuses-if, refuses-last-if, ungroup}
-use Rattle.hb_replay.proofs.SaysLemmas.{nothing, same-some}
+use Rattle.hb_replay.proofs.Refuses.{Refuses, same-err, not-err, refuses-then, refuses-map, refuses-none, refuses-must, refuses-known, refuses-if, refuses-last-if, bind-bind}
+use Rattle.hb_replay.proofs.ValueKinds.{none-is_some, same-some}
 
 -- the number of players
 players-row : (n : ℕ) → (((2 ≤ n) × (n ≤ 6)) → ⊥) ↔ (are_players n ≡ false)
@@ -49,7 +50,7 @@ players-row n = (pick (are_players n) refl, λ h k. let low = k.0 in let high = 
 -- the variant
 refuses-absent-one : {A F : Type 0} (refused : F) (o : Option A) → Refuses (row refused (o ≡ None)) (found_or refused o)
 refuses-absent-one refused None e = (λ h. rw h.1 refl, λ h. (refl, sym (same-err refused e h)))
-refuses-absent-one refused (Some x) e = (λ h. absurd (nothing x (sym h.0)), λ h. absurd (not-err x e h))
+refuses-absent-one refused (Some x) e = (λ h. absurd (none-is_some x (sym h.0)), λ h. absurd (not-err x e h))
 
 -- the options
 both-true : (a b : Bool) → ((a ≡ true) × (b ≡ true)) ↔ ((a && b) ≡ true)
@@ -84,7 +85,7 @@ refuses-modes m o =
     ((m.timed ≡ true) × (1000000 < m.per_turn_s)) o (too-long m.timed m.per_turn_s))))
 
 refuses-other : (other : Option (List ℕ)) → Refuses (other_rows other) (no_other other)
-refuses-other None e = refuses-none (other_rows None) tt (λ e h. nothing h.0 h.1) e
+refuses-other None e = refuses-none (other_rows None) tt (λ e h. none-is_some h.0 h.1) e
 refuses-other (Some name) e = (to, λ h. (name, refl, sym (same-err (fault.Option (option.Other name)) e h)))
   where
     to : ((n : List ℕ) × (Some name ≡ Some n) × (e ≡ fault.Option (option.Other n)))
@@ -93,7 +94,7 @@ refuses-other (Some name) e = (to, λ h. (name, refl, sym (same-err (fault.Optio
 
 -- the deck
 deck-row : (v : Variant) (w : WrittenReplay) → (IsDeck v w.deck → ⊥) ↔ (is_deck v w.deck ≡ false)
-deck-row v w = (deck-not v w.deck, λ h full. clash (sym (deck-to v w.deck full) ∙ h))
+deck-row v w = (deck-not v w.deck, λ h full. clash (sym (deck-tests v w.deck full) ∙ h))
   where
     clash : true ≡ false → ⊥
     clash f = cc
@@ -130,7 +131,7 @@ refuses-here j p a rest r counts broken e = (
     to : (k : ℕ) (s : Rule) → Breaks p (a ∷ rest) k s → e ≡ fault.Action (index (j + k)) s
         → (let m : Result Position ReplayError = Err (fault.Action (index j) r) in m ≡ Err e)
     to zero s h is = let same : r ≡ s = same-some r s (rw broken at h.1) in rw (is, plus j, same) refl
-    to (suc k) s h is = absurd (nothing r (sym h.0 ∙ broken))
+    to (suc k) s h is = absurd (none-is_some r (sym h.0 ∙ broken))
 
 refuses-later : (j : ℕ) (p : Position) (a : WrittenAction) (rest : List WrittenAction) (m : Result Position ReplayError)
     → rule p (act_of p a) ≡ None
@@ -141,7 +142,7 @@ refuses-later j p a rest m legal later e = (λ h. to h.0 h.1 h.2 h.3, from)
     plus k = omega arith
 
     to : (k : ℕ) (s : Rule) → Breaks p (a ∷ rest) k s → e ≡ fault.Action (index (j + k)) s → m ≡ Err e
-    to zero s h is = absurd (nothing s (sym legal ∙ h.1))
+    to zero s h is = absurd (none-is_some s (sym legal ∙ h.1))
     to (suc k) s h is = (later e).0 (k, s, h.1, is ∙ ap (λ i. fault.Action (index i) s) (plus k))
 
     from : m ≡ Err e → BrokenFrom j p (a ∷ rest) e
@@ -200,14 +201,14 @@ unfolding options_for
 refuses-options w Rows f after =
     let n : ℕ = length w.players in
     let o : Options = options_with w.options.starting w.options.modes in
-    rw (ungroup (must (fault.Option option.StartingPlayer) (nat_lt w.options.starting n))
+    rw (bind-bind (must (fault.Option option.StartingPlayer) (nat_lt w.options.starting n))
     (λ _. (in_range (unless_fault (modes_fault w.options.modes) o) >>= λ found. (no_other w.options.other >>= λ _. Ok found))) f)
     (refuses-then _ _ (must (fault.Option option.StartingPlayer) (nat_lt w.options.starting n)) _
     (refuses-must (fault.Option option.StartingPlayer) _ (nat_lt w.options.starting n) (seat-row n w.options.starting)) (λ u seat.
-    rw (ungroup (in_range (unless_fault (modes_fault w.options.modes) o)) (λ found. (no_other w.options.other >>= λ _. Ok found)) f)
+    rw (bind-bind (in_range (unless_fault (modes_fault w.options.modes) o)) (λ found. (no_other w.options.other >>= λ _. Ok found)) f)
     (refuses-then _ _ (in_range (unless_fault (modes_fault w.options.modes) o)) _ (refuses-modes w.options.modes o) (λ found modes.
     let same : found ≡ o = (modes-ok w.options.modes o found modes).1 in
-    rw (ungroup (no_other w.options.other) (λ _. Ok found) f)
+    rw (bind-bind (no_other w.options.other) (λ _. Ok found) f)
     (refuses-then _ _ (no_other w.options.other) _ (refuses-other w.options.other) (λ v other. rw same after))))))
 
 -- a written replay

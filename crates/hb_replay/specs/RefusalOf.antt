@@ -8,7 +8,7 @@ use Rattle.hb_json.specs.declared.option_keys.OptionKey.{OptionKey}
 use Rattle.hb_json.specs.declared.option_keys.OptionKey.TheVariants as understood
 use Rattle.hb_json.specs.OptionKey.{option_name}
 use Rattle.hb_json.specs.JsonReading.{present}
-use Rattle.hb_rules.specs.declared.limits.TheConstants.{MOST_SECONDS}
+use Rattle.hb_rules.specs.declared.limits.TheConstants.{FEWEST_PLAYERS, MOST_PLAYERS, MOST_SECONDS}
 use Rattle.hb_rules.specs.declared.acts.EndHow.{EndHow}
 use Rattle.hb_rules.specs.declared.acts.Rule.{Rule}
 use Rattle.hb_rules.specs.declared.variants.Variant.{Variant}
@@ -17,6 +17,7 @@ use Rattle.hb_rules.specs.Numbers.{end_number}
 use Rattle.hb_rules.specs.Setup.{Position}
 use Rattle.hb_rules.specs.Positions.{after, rule}
 use Rattle.hb_suits.specs.VariantNames.{variant_of}
+use Rattle.hb_replay.specs.declared.fields.TheConstants.{KINDS}
 use Rattle.hb_replay.specs.declared.place.Place.{Place}
 use Rattle.hb_replay.specs.declared.place.Part.TheVariants as part
 use Rattle.hb_replay.specs.declared.place.PlaceField.TheVariants as field
@@ -93,7 +94,7 @@ HasWrongValue d =
 abbrev pub action_rows : ℕ → Data → Place → Type 0
 action_rows k d =
     row (member_place part.Actions k) (¬ IsObject d)
-    otherwise row (field_place part.Actions k field.Kind) (HasNoBelow 5 (codes "type") d)
+    otherwise row (field_place part.Actions k field.Kind) (HasNoBelow KINDS (codes "type") d)
     otherwise row (field_place part.Actions k field.Target) (HasNoBelow 256 (codes "target") d)
     otherwise row (field_place part.Actions k field.Value) (HasWrongValue d)
 
@@ -176,7 +177,7 @@ played_rows v w =
 -- what is refused of a written replay
 abbrev pub written_rows : WrittenReplay → ReplayError → Type 0
 written_rows w =
-    row fault.Players (¬ ((2 ≤ length w.players) × (length w.players ≤ 6)))
+    row fault.Players (¬ ((FEWEST_PLAYERS ≤ length w.players) × (length w.players ≤ MOST_PLAYERS)))
     otherwise row fault.Variant (variant_of w.options.variant ≡ None)
     otherwise row (fault.Option option.StartingPlayer) (length w.players ≤ w.options.starting)
     otherwise mode_rows w.options.modes

@@ -1,6 +1,5 @@
 -- The refusals of what has the shape of a replay, in their order, and the game that is played.
-use Rattle.std.specs.Prelude.{ℕ, ◌+◌, List, [], ◌∷◌, ◌++◌, Result, nat_lt, if◌then◌else◌, Bool, ◌&&◌, ◌==◌, length}
-use Rattle.std.specs.List.{list_all}
+use Rattle.std.specs.Prelude.{ℕ, ◌+◌, List, [], ◌∷◌, Result, nat_lt, if◌then◌else◌, ◌&&◌, ◌==◌, length}
 use Rattle.std.specs.declared.option.Option.{Option}
 use Rattle.std.specs.declared.option.Option.TheVariants.{None, Some}
 use Rattle.std.specs.declared.result.Result.TheVariants.{Ok, Err}
@@ -12,7 +11,7 @@ use Rattle.hb_rules.specs.declared.acts.Options.{Options}
 use Rattle.hb_rules.specs.declared.acts.Rule.{Rule}
 use Rattle.hb_rules.specs.Setup.{Position}
 use Rattle.hb_rules.specs.Start.{are_players, started}
-use Rattle.hb_rules.specs.Cards.{cards, copies, count_of}
+use Rattle.hb_rules.specs.Cards.{is_deck}
 use Rattle.hb_rules.specs.Positions.{after, rule}
 use Rattle.hb_suits.specs.VariantNames.{variant_of}
 use Rattle.hb_replay.specs.declared.written.WrittenAction.{WrittenAction}
@@ -30,11 +29,6 @@ use Rattle.hb_json.specs.WrittenModes.{modes_fault, options_with, unless_fault}
 use Rattle.hb_replay.specs.Errors.{refused_mode}
 use Rattle.hb_replay.specs.Shape.{shape_of}
 use Rattle.hb_replay.specs.WrittenReplay.{act_of, says_end, contents_of}
-
--- the cards are a deck of the variant: each identity of theirs, and each of the variant, stands
--- among them as often as there are copies
-unfoldable pub is_deck : Variant → List Identity → Bool
-is_deck v deck = list_all (λ id. count_of id deck == copies v id) (deck ++ cards v)
 
 -- a mode out of its range is a refused option
 abbrev pub in_range : {X : Type 0} → Result X OptionFault → Result X ReplayError

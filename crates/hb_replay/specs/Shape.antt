@@ -3,14 +3,13 @@
 -- definitions.
 use Rattle.std.specs.Prelude.{ℕ, ◌+◌, List, [], ◌∷◌, codes, Result, if◌then◌else◌, option_and_then, unwrap_or, ◌==◌}
 use Rattle.std.specs.declared.option.Option.{Option}
-use Rattle.std.specs.declared.option.Option.TheVariants.{None, Some}
+use Rattle.std.specs.declared.option.Option.TheVariants.{Some}
 use Rattle.std.specs.declared.result.Result.TheVariants.{Ok, Err}
 use Rattle.serde_json.specs.Data.{Data, object, Items, no_items, item, no_members}
 use Rattle.serde_json.specs.Find.{get, as_str, as_array, as_object}
 use Rattle.hb_rules.specs.declared.suits.Identity.{Identity}
 use Rattle.hb_rules.specs.declared.acts.Clue.TheVariants as clue
-use Rattle.hb_rules.specs.declared.acts.EndHow.{EndHow}
-use Rattle.hb_rules.specs.declared.acts.EndHow.TheVariants.{Normal, Strikeout, Timeout, Terminated}
+use Rattle.hb_replay.specs.declared.fields.TheConstants.{KINDS}
 use Rattle.hb_replay.specs.declared.place.Place.{Place}
 use Rattle.hb_replay.specs.declared.place.Part.TheVariants as part
 use Rattle.hb_replay.specs.declared.place.PlaceField.TheVariants as field
@@ -78,7 +77,7 @@ action_of_kind place kind target d =
 abbrev pub action_at : ℕ → Data → Result WrittenAction Place
 action_at k d = do
   _ ← found_or (member_place part.Actions k) (as_object d)
-  kind ← number_at (field_place part.Actions k field.Kind) 5 (codes "type") d
+  kind ← number_at (field_place part.Actions k field.Kind) KINDS (codes "type") d
   target ← number_at (field_place part.Actions k field.Target) 256 (codes "target") d
   action_of_kind (field_place part.Actions k field.Value) kind target d
 

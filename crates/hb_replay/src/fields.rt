@@ -21,11 +21,14 @@ pub(crate) fn list<'v>(value: &'v Value, key: &str, place: Place) -> Result<&'v 
     value.get(key).and_then(Value::as_array).ok_or(place)
 }
 
-/// A whole number of 0 to 4, the type of an action.
+/// The types of actions are the numbers below this.
+const KINDS: u8 = 5;
+
+/// The type of an action, 0 to 4.
 fn kind(value: &Value) -> Option<u8>
-    ensures { result ≡ below_of 5 (view value.now) }
+    ensures { result ≡ below_of KINDS (view value.now) }
 {
-    byte(value).filter(|n| *n < 5)
+    byte(value).filter(|n| *n < KINDS)
 }
 
 /// The field of an object that is a whole number of 0 to 255.

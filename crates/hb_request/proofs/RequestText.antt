@@ -84,14 +84,14 @@ word-back (command.Table table.Hypo) = (refl, refl)
 word-back (command.Table table.Undo) = (refl, refl)
 word-back (command.Table table.Close) = (refl, refl)
 
-inside : (low high n : ℕ) → low ≤ n → n ≤ high → (nat_le low n && nat_le n high) ≡ true
-inside low high n h k = grind arith
+nat_le-inside : (low high n : ℕ) → low ≤ n → n ≤ high → (nat_le low n && nat_le n high) ≡ true
+nat_le-inside low high n h k = grind arith
 
-under : (high n : ℕ) → n ≤ high → (nat_le 0 n && nat_le n high) ≡ true
-under high n h = grind arith
+nat_le-under : (high n : ℕ) → n ≤ high → (nat_le 0 n && nat_le n high) ≡ true
+nat_le-under high n h = grind arith
 
-small : (n : ℕ) → n ≤ 2 ^ 8 - 1 → nat_lt n 256 ≡ true
-small n h = grind arith
+nat_lt-byte : (n : ℕ) → n ≤ 2 ^ 8 - 1 → nat_lt n 256 ≡ true
+nat_lt-byte n h = grind arith
 
 at-most : (n k : ℕ) → n ≤ k → nat_le n k ≡ true
 at-most n k h = grind arith
@@ -99,10 +99,10 @@ at-most n k h = grind arith
 -- the canonical form of an action says it
 action-back : (a : WireAction) → IsAction a
     → (let found : Result WireAction FieldName = action_of (action_data 0 (game_action a)) in found ≡ Ok a)
-action-back (action.Play order) h = rw (small order h) refl
-action-back (action.Discard order) h = rw (small order h) refl
-action-back (action.Color to index) h = rw (small to h.0, small index h.1) refl
-action-back (action.Rank to rank) h = rw (small to h.0, small rank h.1) refl
+action-back (action.Play order) h = rw (nat_lt-byte order h) refl
+action-back (action.Discard order) h = rw (nat_lt-byte order h) refl
+action-back (action.Color to index) h = rw (nat_lt-byte to h.0, nat_lt-byte index h.1) refl
+action-back (action.Rank to rank) h = rw (nat_lt-byte to h.0, nat_lt-byte rank h.1) refl
 
 -- an object of options that says a variant and modes in their ranges asks for that opening
 options-said : (d : Data) (ms : Members) (name : List ℕ) (modes : WrittenModes) (o : Options) → as_object d ≡ Some ms
@@ -128,11 +128,11 @@ record Numbers (room table number : ℕ) : Type 0 where
   table_in : (nat_le 1 table && nat_le table (2 ^ 32 - 1)) ≡ true
   number_in : (nat_le 1 number && nat_le number (2 ^ 32 - 1)) ≡ true
 
-numbers : (room table number : ℕ) → room ≤ 2 ^ 32 - 1 → IsPositive table → IsPositive number → Numbers room table number
-numbers room table number r t n = record {
-  room_in = under (2 ^ 32 - 1) room r;
-  table_in = inside 1 (2 ^ 32 - 1) table t.0 t.1;
-  number_in = inside 1 (2 ^ 32 - 1) number n.0 n.1;
+numbers-in : (room table number : ℕ) → room ≤ 2 ^ 32 - 1 → IsPositive table → IsPositive number → Numbers room table number
+numbers-in room table number r t n = record {
+  room_in = nat_le-under (2 ^ 32 - 1) room r;
+  table_in = nat_le-inside 1 (2 ^ 32 - 1) table t.0 t.1;
+  number_in = nat_le-inside 1 (2 ^ 32 - 1) number n.0 n.1;
 }
 
 -- likewise of a request to a table
@@ -144,21 +144,21 @@ table-back room table number (ask.Open name e x l t base turn) n h =
 table-back room table number ask.Sit n h = rw (n.room_in, n.table_in, n.number_in) refl
 table-back room table number ask.Rise n h = rw (n.room_in, n.table_in, n.number_in) refl
 table-back room table number ask.Start n h = rw (n.room_in, n.table_in, n.number_in) refl
-table-back room table number (ask.Play order) n h = rw (n.room_in, n.table_in, n.number_in, under HIGHEST_ORDER order h) refl
-table-back room table number (ask.Discard order) n h = rw (n.room_in, n.table_in, n.number_in, under HIGHEST_ORDER order h) refl
+table-back room table number (ask.Play order) n h = rw (n.room_in, n.table_in, n.number_in, nat_le-under HIGHEST_ORDER order h) refl
+table-back room table number (ask.Discard order) n h = rw (n.room_in, n.table_in, n.number_in, nat_le-under HIGHEST_ORDER order h) refl
 table-back room table number (ask.Clue to (clue.Color index)) n h =
-    rw (n.room_in, n.table_in, n.number_in, under HIGHEST_SEAT to h.0, under HIGHEST_COLOR index h.1) refl
+    rw (n.room_in, n.table_in, n.number_in, nat_le-under HIGHEST_SEAT to h.0, nat_le-under HIGHEST_COLOR index h.1) refl
 table-back room table number (ask.Clue to (clue.Rank rank)) n h =
-    rw (n.room_in, n.table_in, n.number_in, under HIGHEST_SEAT to h.0, inside 1 HIGHEST_RANK rank h.1.0 h.1.1) refl
-table-back room table number (ask.Note order text) n h = rw (n.room_in, n.table_in, n.number_in, under HIGHEST_ORDER order h) refl
+    rw (n.room_in, n.table_in, n.number_in, nat_le-under HIGHEST_SEAT to h.0, nat_le-inside 1 HIGHEST_RANK rank h.1.0 h.1.1) refl
+table-back room table number (ask.Note order text) n h = rw (n.room_in, n.table_in, n.number_in, nat_le-under HIGHEST_ORDER order h) refl
 table-back room table number ask.Pause n h = rw (n.room_in, n.table_in, n.number_in) refl
 table-back room table number ask.Resume n h = rw (n.room_in, n.table_in, n.number_in) refl
 table-back room table number ask.Terminate n h = rw (n.room_in, n.table_in, n.number_in) refl
 table-back room table number (ask.Watch None) n h = rw (n.room_in, n.table_in, n.number_in) refl
-table-back room table number (ask.Watch (Some seat)) n h = rw (n.room_in, n.table_in, n.number_in, under HIGHEST_SEAT seat h) refl
+table-back room table number (ask.Watch (Some seat)) n h = rw (n.room_in, n.table_in, n.number_in, nat_le-under HIGHEST_SEAT seat h) refl
 table-back room table number ask.Leave n h = rw (n.room_in, n.table_in, n.number_in) refl
-table-back room table number (ask.Load id) n h = rw (n.room_in, n.table_in, n.number_in, inside 1 HIGHEST_ID id h.0 h.1) refl
-table-back room table number (ask.Go turn) n h = rw (n.room_in, n.table_in, n.number_in, under (2 ^ 16 - 1) turn h) refl
+table-back room table number (ask.Load id) n h = rw (n.room_in, n.table_in, n.number_in, nat_le-inside 1 HIGHEST_ID id h.0 h.1) refl
+table-back room table number (ask.Go turn) n h = rw (n.room_in, n.table_in, n.number_in, nat_le-under (2 ^ 16 - 1) turn h) refl
 table-back room table number (ask.Hypo a) n h = rw (n.room_in, n.table_in, n.number_in, action-back a h) refl
 table-back room table number ask.Undo n h = rw (n.room_in, n.table_in, n.number_in) refl
 table-back room table number ask.Close n h = rw (n.room_in, n.table_in, n.number_in) refl
@@ -166,15 +166,15 @@ table-back room table number ask.Close n h = rw (n.room_in, n.table_in, n.number
 -- what a message says is what its request asks
 request-back : (r : Request) → IsRequest r → request_in (command_for r) (request_data r) ≡ Ok r
 unfolding request_in request_data
-request-back (request.Hello name key) h = rw (inside 1 KEY_LIMIT (length key) h.0 h.1) refl
-request-back (request.Look room) h = rw (under (2 ^ 32 - 1) room h) refl
-request-back (request.Room room table number a) h = table-back room table number a (numbers room table number h.0 h.1 h.2) h.3
+request-back (request.Hello name key) h = rw (nat_le-inside 1 KEY_LIMIT (length key) h.0 h.1) refl
+request-back (request.Look room) h = rw (nat_le-under (2 ^ 32 - 1) room h) refl
+request-back (request.Room room table number a) h = table-back room table number a (numbers-in room table number h.0 h.1 h.2) h.3
 
 -- the message of a request asks it, if its JSON text reads back
-back : (r : Request) → IsRequest r → read (compact_text (request_data r)) ≡ Some (request_data r)
+parsed-message : (r : Request) → IsRequest r → read (compact_text (request_data r)) ≡ Some (request_data r)
     → length (request_text r) ≤ MESSAGE_LIMIT → parsed (request_text r) ≡ Ok r
 unfolding parsed request_data
-back r h reads short =
+parsed-message r h reads short =
     let word = word-back (command_for r) in
     let parts = word_of-line (command_word (command_for r)) (request_data r) (is-spaceless (command_for r)) in
     rw (at-most (length (request_text r)) MESSAGE_LIMIT short, parts.0, word.1, word.0, parts.1, reads, request-back r h) refl
@@ -188,4 +188,4 @@ parsed-request_text r c word d text t same_command same_word same is_line reads 
     let reads_back : read (compact_text (request_data r)) ≡ Some (request_data r) = rw (sym same) (reads (omega (arith, plain.low))) in
     let same_line : word ≡ command_word (command_for r) = same_word ∙ ap command_word same_command in
     let message : t ≡ request_text r = same_text ∙ is_line ∙ ap (λ w. line w d) same_line ∙ ap (line (command_word (command_for r))) same in
-    rw message (back r h reads_back (rw (sym message) short))
+    rw message (parsed-message r h reads_back (rw (sym message) short))

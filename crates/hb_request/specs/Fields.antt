@@ -12,6 +12,7 @@ use Rattle.hb_json.specs.Results.{◌>>=◌, found_or, absent_or, must}
 use Rattle.hb_json.specs.OptionKey.{first_other}
 use Rattle.hb_json.specs.JsonReading.{present, whole_of, below_of}
 use Rattle.hb_json.specs.WrittenModes.{modes_fault, modes_in, options_with, unless_fault, variant_in}
+use Rattle.hb_request.specs.declared.asks.TheConstants.{KINDS}
 use Rattle.hb_request.specs.declared.commands.TableCommand.{TableCommand}
 use Rattle.hb_request.specs.declared.commands.TableCommand.TheVariants as table
 use Rattle.hb_request.specs.declared.commands.Command.{Command}
@@ -108,7 +109,7 @@ action_of_kind kind target d =
 -- an action of type 0 to 3
 abbrev pub action_of : Data → Result WireAction FieldName
 action_of d = do
-  kind ← action_number 4 (codes "type") d
+  kind ← action_number KINDS (codes "type") d
   target ← action_number 256 (codes "target") d
   action_of_kind kind target d
 

@@ -48,14 +48,17 @@ fn action_byte(value: &Value, key: &str) -> Result<u8, FieldName>
         .ok_or(FieldName::Action)
 }
 
+/// The types of actions that a request may have are the numbers below this: it calls no end.
+const KINDS: u8 = 4;
+
 /// The type of an action, 0 to 3.
 fn action_kind(value: &Value) -> Result<u8, FieldName>
-    ensures { result ≡ action_number 4 (codes "type") (view value.now) }
+    ensures { result ≡ action_number KINDS (codes "type") (view value.now) }
 {
     value
         .get("type")
         .and_then(|found| byte(found))
-        .filter(|kind| *kind < 4)
+        .filter(|kind| *kind < KINDS)
         .ok_or(FieldName::Action)
 }
 

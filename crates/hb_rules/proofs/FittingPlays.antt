@@ -9,9 +9,7 @@ use Rattle.hb_rules.specs.declared.setups.Setup.{Setup}
 use Rattle.hb_rules.specs.Laws.{histories, is_fitting_play, plays_next}
 use Rattle.hb_rules.specs.Result.{height, height_after}
 use Rattle.hb_rules.specs.Setup.{card}
-
-same-number : (n m : ℕ) → (n == m) ≡ true → n ≡ m
-same-number n m h = grind arith
+use Rattle.std.proofs.lemmas.Bool.{eqb-true}
 
 -- a height after an action grows by one just by a fitting play of the suit
 height-grows : (g : Setup) (past : List Act) (suit : ℕ) (act : Action)
@@ -32,7 +30,7 @@ height-grows g past suit (action.Play order) = pick ((card g order).suit == suit
         → height_after g suit (action.Play order) (height g past suit)
         ≡ (if plays_next g suit (action.Play order) past then 1 else 0) + height g past suit
     pick false e = rw e (none (height g past suit))
-    pick true e = let same : (card g order).suit ≡ suit = same-number (card g order).suit suit e in
+    pick true e = let same : (card g order).suit ≡ suit = eqb-true (card g order).suit suit e in
         rw (e, same) (fitting ((card g order).rank == height g past suit + 1) (height g past suit))
 
 -- the height of a suit is the number of its fitting plays

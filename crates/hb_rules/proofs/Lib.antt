@@ -9,7 +9,9 @@ pub mod Touched
 pub mod Heights
 pub mod Identities
 pub mod Decks
+pub mod SuitCount
 pub mod DeckSize
 pub mod Numbers
 pub mod Same
+pub mod IsDeal
 pub mod Possible

@@ -1,119 +1,28 @@
--- The tests of a deal and of a possible identity say what their records say, and the possible identities are listed whole.
-use Rattle.std.proofs.Common.{◌≡◌, ℕ, ◌+◌, ◌<◌, ◌≤◌, ◌↔◌, ◌⊎◌, inl, inr, Bool, true, false, cond, List, [], ◌∷◌, ◌++◌, ◌∙◌, refl, arith, length, map, subst, sym, zero, suc, zero-add, None, Some, Option}
-use Rattle.std.specs.Prelude.{◌==◌, ◌&&◌, ◌||◌, nat_le, Any, Contains, filter, flat_map, is_none, if◌then◌else◌}
-use Rattle.std.specs.List.{list_all, list_any, range_with_len}
+-- The test of a possible identity says what its record says, and the possible identities are listed whole.
+use Rattle.std.proofs.Common.{◌≡◌, ℕ, ◌+◌, ◌<◌, ◌≤◌, ◌↔◌, ◌⊎◌, inl, inr, Bool, true, false, cond, List, [], ◌∷◌, ◌∙◌, refl, arith, length, map, subst, sym, zero, suc}
+use Rattle.std.specs.Prelude.{◌&&◌, ◌||◌, nat_le, Any, Contains, filter, flat_map}
+use Rattle.std.specs.List.{list_any, range_with_len}
 use Rattle.std.specs.List.Sorted.{IsStrictlyIncreasing}
 use Rattle.std.proofs.lemmas.Bool.{and_parts, and_from}
 use Rattle.std.proofs.lemmas.List.FromFn.{get_or-range_with_len, length-range_with_len}
 use Rattle.std.proofs.lemmas.List.Folds.{Any-from_list_any, list_any-append}
 use Rattle.std.proofs.lemmas.List.Kept.{IsStrictlyIncreasing-filter}
-use Rattle.std.proofs.lemmas.List.Sums.{sum_by-cons}
-use Rattle.hb_rules.specs.declared.acts.Act.{Act}
-use Rattle.hb_rules.specs.declared.acts.Rule.{Rule}
-use Rattle.hb_rules.specs.declared.setups.Setup.{Setup}
 use Rattle.hb_rules.specs.declared.suits.Identity.{Identity}
-use Rattle.hb_rules.specs.declared.variants.Variant.{Variant}
-use Rattle.hb_rules.specs.Cards.{IsDeck, cards, copies, count_of, identity, is_deck, same_identity}
-use Rattle.hb_rules.specs.Deals.{IsDeal, IsPossible, is_deal, is_possible, lists_of, possible}
-use Rattle.hb_rules.specs.Events.{acts_of, observation}
+use Rattle.hb_rules.specs.Cards.{cards, copies, count_of, identity, same_identity}
+use Rattle.hb_rules.specs.Deals.{IsPossible, is_deal, is_possible, lists_of, possible}
 use Rattle.hb_rules.specs.Observed.{Observed, setup_with}
-use Rattle.hb_rules.specs.Legality.{Legal, is_legal, rule}
-use Rattle.hb_rules.specs.Same.{same_events}
 use Rattle.hb_rules.specs.Setup.{card}
 use Rattle.hb_rules.proofs.DeckSize.{deck-length}
 use Rattle.hb_rules.proofs.Identities.{same_identity-refl, same_identity-true}
-use Rattle.hb_rules.proofs.Ranges.{list_all-append}
-use Rattle.hb_rules.proofs.Same.{tells-events}
-
-count-cons : (id x : Identity) (xs : List Identity) → count_of id (x ∷ xs) ≡ (if same_identity id x then 1 else 0) + count_of id xs
-count-cons id x xs = sum_by-cons (λ y. cond (same_identity id y) 1 0) x xs
-
-counted-later : (id x : Identity) (xs : List Identity) → same_identity id x ≡ false → 1 ≤ count_of id (x ∷ xs) → 1 ≤ count_of id xs
-counted-later id x xs other some = let c : count_of id (x ∷ xs) ≡ count_of id xs = count-cons id x xs ∙ rw other (zero-add (count_of id xs)) in omega (arith, c)
-
--- what all cards of a list pass, an identity among them passes
-found : (p : Identity → Bool) (id : Identity) (xs : List Identity) → list_all p xs ≡ true → 1 ≤ count_of id xs → p id ≡ true
-found p id [] all some = absurd (omega arith)
-found p id (x ∷ xs) all some = pick (same_identity id x) refl (found p id xs)
-  where
-    parts : (p x ≡ true) × (list_all p xs ≡ true)
-    parts = and_parts (p x) (list_all p xs) all
-
-    pick : (b : Bool) → same_identity id x ≡ b → (list_all p xs ≡ true → 1 ≤ count_of id xs → p id ≡ true) → p id ≡ true
-    pick true e ih = subst (λ y. p y ≡ true) (sym (same_identity-true id x e)) parts.0
-    pick false e ih = ih parts.1 (counted-later id x xs e some)
-
-all-pass : (p : Identity → Bool) → ((id : Identity) → p id ≡ true) → (xs : List Identity) → list_all p xs ≡ true
-all-pass p h [] = refl
-all-pass p h (x ∷ xs) = and_from (p x) (list_all p xs) (h x) (all-pass p h xs)
-
-same-number : (n m : ℕ) → (n == m) ≡ true → n ≡ m
-same-number n m h = grind arith
-
-none-or-some : (n : ℕ) → (n ≡ 0) ⊎ (1 ≤ n)
-none-or-some zero = inl refl
-none-or-some (suc n) = inr (omega arith)
-
--- the test of a deck
-pub deck-is : (v : Variant) (deck : List Identity) → is_deck v deck ≡ true → IsDeck v deck
-unfolding copies
-deck-is v deck h id = pick (none-or-some (count_of id (cards v))) (none-or-some (count_of id deck))
-  where
-    p : Identity → Bool
-    p = λ id. count_of id deck == copies v id
-
-    parts : (list_all p (cards v) ≡ true) × (list_all p deck ≡ true)
-    parts = and_parts (list_all p (cards v)) (list_all p deck) (rw list_all-append at h)
-
-    pick : (count_of id (cards v) ≡ 0) ⊎ (1 ≤ count_of id (cards v)) → (count_of id deck ≡ 0) ⊎ (1 ≤ count_of id deck) → count_of id deck ≡ copies v id
-    pick (inr some) other = same-number (count_of id deck) (copies v id) (found p id (cards v) parts.0 some)
-    pick (inl none) (inr some) = same-number (count_of id deck) (copies v id) (found p id deck parts.1 some)
-    pick (inl none) (inl none') = cc
-
-deck-tests : (v : Variant) (deck : List Identity) → IsDeck v deck → is_deck v deck ≡ true
-deck-tests v deck full = all-pass (λ id. count_of id deck == copies v id) (λ id. rw full (own (copies v id))) (cards v ++ deck)
-  where
-    own : (n : ℕ) → (n == n) ≡ true
-    own n = grind arith
-
--- the test of a legal history
-none-is : (o : Option Rule) → is_none o ≡ true → o ≡ None
-none-is None h = refl
-none-is (Some r) h = cc
-
-legal-is : (g : Setup) (past : List Act) → is_legal g past ≡ true → Legal g past
-legal-is g [] h = tt
-legal-is g (act ∷ past) h = let p : (is_none (rule g past act) ≡ true) × (is_legal g past ≡ true) = and_parts (is_none (rule g past act)) (is_legal g past) h in
-    (none-is (rule g past act) p.0, legal-is g past p.1)
-
-legal-tests : (g : Setup) (past : List Act) → Legal g past → is_legal g past ≡ true
-legal-tests g [] h = refl
-legal-tests g (act ∷ past) h = and_from (is_none (rule g past act)) (is_legal g past) (rw h.0 refl) (legal-tests g past h.1)
-
--- the test of a deal
-pub deal-is : (seen : Observed) (deck : List Identity) → is_deal seen deck ≡ true → IsDeal seen deck
-unfolding is_deal
-deal-is seen deck h =
-    let g : Setup = setup_with seen deck in
-    let a : ((is_deck seen.variant deck && is_legal g (acts_of seen.events)) ≡ true) × (same_events (observation seen.blind g (acts_of seen.events)) seen.events ≡ true) =
-    and_parts (is_deck seen.variant deck && is_legal g (acts_of seen.events)) (same_events (observation seen.blind g (acts_of seen.events)) seen.events) h in
-    let b : (is_deck seen.variant deck ≡ true) × (is_legal g (acts_of seen.events) ≡ true) = and_parts (is_deck seen.variant deck) (is_legal g (acts_of seen.events)) a.0 in
-    record { full = deck-is seen.variant deck b.0; legal = legal-is g (acts_of seen.events) b.1; same = (tells-events (observation seen.blind g (acts_of seen.events)) seen.events).0 a.1 }
-
-pub deal-tests : (seen : Observed) (deck : List Identity) → IsDeal seen deck → is_deal seen deck ≡ true
-unfolding is_deal
-deal-tests seen deck d =
-    let g : Setup = setup_with seen deck in
-    and_from (is_deck seen.variant deck && is_legal g (acts_of seen.events)) (same_events (observation seen.blind g (acts_of seen.events)) seen.events)
-    (and_from (is_deck seen.variant deck) (is_legal g (acts_of seen.events)) (deck-tests seen.variant deck d.full) (legal-tests g (acts_of seen.events) d.legal))
-    ((tells-events (observation seen.blind g (acts_of seen.events)) seen.events).1 d.same)
+use Rattle.hb_rules.proofs.IsDeal.{count-cons, counted-later, deal-is, deal-tests}
 
 -- a test that some item of a list passes, where the list is put together
 any-map : {X Y : Type 0} (q : Y → Bool) (h : X → Y) (xs : List X) → list_any q (map h xs) ≡ list_any (λ x. q (h x)) xs
 any-map q h [] = refl
 any-map q h (x ∷ xs) = rw (any-map q h xs) refl
 
-any-flat_map : {X Y : Type 0} (q : Y → Bool) (f : X → List Y) (xs : List X) → list_any q (flat_map f xs) ≡ list_any (λ x. list_any q (f x)) xs
+any-flat_map : {X Y : Type 0} (q : Y → Bool) (f : X → List Y) (xs : List X)
+    → list_any q (flat_map f xs) ≡ list_any (λ x. list_any q (f x)) xs
 any-flat_map q f [] = refl
 any-flat_map q f (x ∷ xs) = rw (list_any-append q (f x) (flat_map f xs), any-flat_map q f xs) refl
 
@@ -143,43 +52,56 @@ later-counted : (id x : Identity) (xs : List Identity) → 1 ≤ count_of id xs 
 later-counted id x xs some = omega (arith, count-cons id x xs)
 
 -- a list of cards that are all choices is among the lists of as many
-any-lists : (choices deck : List Identity) (q : List Identity → Bool) → ((id : Identity) → 1 ≤ count_of id deck → 1 ≤ count_of id choices) → q deck ≡ true
+any-lists : (choices deck : List Identity) (q : List Identity → Bool)
+    → ((id : Identity) → 1 ≤ count_of id deck → 1 ≤ count_of id choices) → q deck ≡ true
     → list_any q (lists_of (length deck) choices) ≡ true
 any-lists choices [] q within here = rw here refl
 any-lists choices (x ∷ deck) q within here =
     let extended : List Identity → List (List Identity) = λ rest. map (λ id. id ∷ rest) choices in
     let first : 1 ≤ count_of x choices = within x (first-counted x deck) in
     let rest : list_any (λ r. list_any (λ id. q (id ∷ r)) choices) (lists_of (length deck) choices) ≡ true =
-    any-lists choices deck (λ r. list_any (λ id. q (id ∷ r)) choices) (λ id some. within id (later-counted id x deck some)) (any-count (λ id. q (id ∷ deck)) x choices first here) in
+    any-lists choices deck (λ r. list_any (λ id. q (id ∷ r)) choices)
+    (λ id some. within id (later-counted id x deck some))
+    (any-count (λ id. q (id ∷ deck)) x choices first here) in
     any-flat_map q extended (lists_of (length deck) choices)
-    ∙ (any-same (λ r. list_any q (extended r)) (λ r. list_any (λ id. q (id ∷ r)) choices) (λ r. any-map q (λ id. id ∷ r) choices) (lists_of (length deck) choices) ∙ rest)
+    ∙ (any-same (λ r. list_any q (extended r)) (λ r. list_any (λ id. q (id ∷ r)) choices)
+    (λ r. any-map q (λ id. id ∷ r) choices) (lists_of (length deck) choices)
+    ∙ rest)
 
+-- what the test says is possible is
 pub possible-is : (seen : Observed) (order : ℕ) (id : Identity) → is_possible seen order id ≡ true → IsPossible seen order id
 unfolding is_possible
 possible-is seen order id h =
     let q : List Identity → Bool = λ deck. is_deal seen deck && same_identity (card (setup_with seen deck) order) id in
     pick (Any-from_list_any q (lists_of (length (cards seen.variant)) (cards seen.variant)) h)
   where
-    pick : Any (λ deck. (is_deal seen deck && same_identity (card (setup_with seen deck) order) id) ≡ true) (lists_of (length (cards seen.variant)) (cards seen.variant)) → IsPossible seen order id
+    pick : Any (λ deck. (is_deal seen deck && same_identity (card (setup_with seen deck) order) id) ≡ true)
+        (lists_of (length (cards seen.variant)) (cards seen.variant))
+        → IsPossible seen order id
     pick (k, deck, low, at, both) = let p : (is_deal seen deck ≡ true) × (same_identity (card (setup_with seen deck) order) id ≡ true) =
         and_parts (is_deal seen deck) (same_identity (card (setup_with seen deck) order) id) both in
         record { deck = deck; deal = deal-is seen deck p.0; is = same_identity-true (card (setup_with seen deck) order) id p.1 }
 
+-- and what is possible passes the test
 pub possible-tests : (seen : Observed) (order : ℕ) (id : Identity) → IsPossible seen order id → is_possible seen order id ≡ true
 unfolding is_possible copies
 possible-tests seen order id p =
     let q : List Identity → Bool = λ deck. is_deal seen deck && same_identity (card (setup_with seen deck) order) id in
     let passes : q p.deck ≡ true = and_from (is_deal seen p.deck) (same_identity (card (setup_with seen p.deck) order) id)
-    (deal-tests seen p.deck p.deal) (subst (λ c. same_identity (card (setup_with seen p.deck) order) c ≡ true) p.is (same_identity-refl (card (setup_with seen p.deck) order))) in
+    (deal-tests seen p.deck p.deal)
+    (subst (λ c. same_identity (card (setup_with seen p.deck) order) c ≡ true) p.is
+    (same_identity-refl (card (setup_with seen p.deck) order))) in
     subst (λ many. list_any q (lists_of many (cards seen.variant)) ≡ true) (deck-length seen.variant p.deck p.deal.full)
     (any-lists (cards seen.variant) p.deck q (λ c some. subst (λ many. 1 ≤ many) (p.deal.full c) some) passes)
 
 -- filters over a range by tests that agree on it
-pub filter-within : (p q : ℕ → Bool) (a n : ℕ) → ((k : ℕ) → a ≤ k → k < a + n → p k ≡ q k) → filter p (range_with_len a n) ≡ filter q (range_with_len a n)
+pub filter-within : (p q : ℕ → Bool) (a n : ℕ) → ((k : ℕ) → a ≤ k → k < a + n → p k ≡ q k)
+    → filter p (range_with_len a n) ≡ filter q (range_with_len a n)
 filter-within p q a zero same = refl
 filter-within p q a (suc n) same =
     let here : p a ≡ q a = same a (omega arith) (omega arith) in
-    let rest : filter p (range_with_len (a + 1) n) ≡ filter q (range_with_len (a + 1) n) = filter-within p q (a + 1) n (λ k low high. same k (omega arith) (omega arith)) in
+    let rest : filter p (range_with_len (a + 1) n) ≡ filter q (range_with_len (a + 1) n) =
+    filter-within p q (a + 1) n (λ k low high. same k (omega arith) (omega arith)) in
     rw (here, rest) refl
 
 iff-same : (a b : Bool) → (a ≡ true → b ≡ true) → (b ≡ true → a ≡ true) → a ≡ b
@@ -194,13 +116,16 @@ pub possible-filter : (seen : Observed) (order : ℕ) (p : ℕ → Bool)
 unfolding possible
 possible-filter seen order p says = filter-within p (λ k. is_possible seen order (identity k)) 0 30
     (λ k low high. iff-same (p k) (is_possible seen order (identity k))
-    (λ h. possible-tests seen order (identity k) ((says k (omega arith)).0 h)) (λ h. (says k (omega arith)).1 (possible-is seen order (identity k) h)))
+    (λ h. possible-tests seen order (identity k) ((says k (omega arith)).0 h))
+    (λ h. (says k (omega arith)).1 (possible-is seen order (identity k) h)))
 
-range-rises : (n : ℕ) → IsStrictlyIncreasing (range_with_len 0 n)
+-- numbers of a range ascend
+pub range-rises : (n : ℕ) → IsStrictlyIncreasing (range_with_len 0 n)
 range-rises n k low =
     let l : k + 1 < n = omega (arith, length-range_with_len 0 n) in
     omega (arith, get_or-range_with_len 0 n k 0 (omega arith), get_or-range_with_len 0 n (k + 1) 0 l)
 
+-- the possible identities are listed by their numbers
 pub possible-rises : (seen : Observed) (order : ℕ) → IsStrictlyIncreasing (possible seen order)
 unfolding possible
 possible-rises seen order = IsStrictlyIncreasing-filter (λ k. is_possible seen order (identity k)) (range_with_len 0 30) (range-rises 30)
@@ -232,7 +157,8 @@ filter-passes p a (suc n) k c = pick (p a) refl c (filter-passes p (a + 1) n k)
     first : a ≡ k → p a ≡ true → Passes p a (suc n) k
     first e h = record { low = omega arith; high = omega arith; passes = subst (λ m. p m ≡ true) e h }
 
-    cases : p a ≡ true → (a ≡ k) ⊎ Contains (filter p (range_with_len (a + 1) n)) k → (Contains (filter p (range_with_len (a + 1) n)) k → Passes p (a + 1) n k) → Passes p a (suc n) k
+    cases : p a ≡ true → (a ≡ k) ⊎ Contains (filter p (range_with_len (a + 1) n)) k
+        → (Contains (filter p (range_with_len (a + 1) n)) k → Passes p (a + 1) n k) → Passes p a (suc n) k
     cases e (inl here) ih = first here e
     cases e (inr later) ih = wider (ih later)
 
@@ -246,11 +172,15 @@ filter-holds p a zero k low high h = absurd (omega arith)
 filter-holds p a (suc n) k low high h = pick (p a) refl (order-cases a k low) (λ l. filter-holds p (a + 1) n k l (omega arith) h)
   where
     order-cases : (x y : ℕ) → x ≤ y → (x ≡ y) ⊎ (x + 1 ≤ y)
-    order-cases x y l = elim (nat_le (x + 1) y) as (λ b. nat_le (x + 1) y ≡ b → (x ≡ y) ⊎ (x + 1 ≤ y)) [ true ↦ λ e. inr (grind arith) | false ↦ λ e. inl (grind arith) ] refl
+    order-cases x y l =
+        elim (nat_le (x + 1) y) as (λ b. nat_le (x + 1) y ≡ b → (x ≡ y) ⊎ (x + 1 ≤ y))
+        [ true ↦ λ e. inr (grind arith) | false ↦ λ e. inl (grind arith) ] refl
 
     pick : (b : Bool) → p a ≡ b → (a ≡ k) ⊎ (a + 1 ≤ k) → (a + 1 ≤ k → Contains (filter p (range_with_len (a + 1) n)) k)
         → Contains (cond b (a ∷ filter p (range_with_len (a + 1) n)) (filter p (range_with_len (a + 1) n))) k
-    pick true e (inl here) ih = subst (λ m. Contains (a ∷ filter p (range_with_len (a + 1) n)) m) here (listed-first a (filter p (range_with_len (a + 1) n)))
+    pick true e (inl here) ih =
+        subst (λ m. Contains (a ∷ filter p (range_with_len (a + 1) n)) m) here
+        (listed-first a (filter p (range_with_len (a + 1) n)))
     pick true e (inr later) ih = listed-later a k (filter p (range_with_len (a + 1) n)) (ih later)
     pick false e (inl here) ih = let t : p a ≡ true = subst (λ m. p m ≡ true) (sym here) h in cc
     pick false e (inr later) ih = ih later

@@ -61,15 +61,16 @@ is_deck v deck = list_all (λ id. count_of id deck == copies v id) (cards v ++ d
 
 -- the number of an identity
 abbrev pub number : Identity → ℕ
-number id = id.suit * 5 + (id.rank - 1)
+number id = id.suit * HIGHEST_RANK + (id.rank - 1)
 
--- the pair is an identity of some variant: a suit index below 6 and a rank of 1 to 5
+-- the pair is an identity of some variant: the index of one of six suits, and a rank of 1 to 5
 abbrev pub in_range : Identity → Bool
-in_range id = nat_lt id.suit 6 && nat_le 1 id.rank && nat_lt id.rank 6
+in_range id =
+    nat_lt id.suit MOST_SUITS && nat_le 1 id.rank && nat_lt id.rank (HIGHEST_RANK + 1)
 
 -- the identity with a number; the identities of a suit stand together, by rank
 abbrev pub identity : ℕ → Identity
-identity n = record { suit = n / 5; rank = n % 5 + 1 }
+identity n = record { suit = n / HIGHEST_RANK; rank = n % HIGHEST_RANK + 1 }
 
 -- the variant has cards of the identity with this number
 abbrev pub has_number : Variant → ℕ → Bool

@@ -24,9 +24,9 @@ pub use acts::{Act, Action, Clue, EndHow, Options, Rule, StartError};
 pub use events::Event;
 pub use laws::{heights_count_plays, possible_are_listed};
 pub use limits::{
-    DEFAULT_BASE_SECONDS, DEFAULT_TURN_SECONDS, FEWEST_PLAYERS, FULL_TOKENS, HIGHEST_RANK,
-    IDENTITIES, MOST_ACTS, MOST_CARDS, MOST_HAND, MOST_PLAYERS, MOST_SECONDS, MOST_SUITS,
-    STRIKES_TO_LOSE,
+    DEFAULT_BASE_SECONDS, DEFAULT_TURN_SECONDS, FEWEST_CARDS, FEWEST_PLAYERS, FEWEST_SUITS,
+    FULL_TOKENS, HIGHEST_RANK, IDENTITIES, MOST_ACTS, MOST_CARDS, MOST_HAND, MOST_PLAYERS,
+    MOST_SECONDS, MOST_SUITS, STRIKES_TO_LOSE,
 };
 pub use setups::Setup;
 pub use suits::{Identity, Kind, Special, Suit};

@@ -22,10 +22,11 @@ use Rattle.hb_rules.specs.Setup.{Position, card, deal_size, hand_size}
 use Rattle.hb_rules.specs.Hands.{is_gone, joins}
 use Rattle.hb_rules.specs.Result.{ended}
 use Rattle.hb_rules.specs.Events.{blank, blanked, caller, drawn_event, draws, ends, events, in_blind, observation, told}
-use Rattle.hb_rules.proofs.Decks.{length-same}
+use Rattle.hb_rules.proofs.DeckSize.{deck-length}
 use Rattle.hb_sight.specs.Seen.{seen_card, seen_deck, seen_position, shown_at}
 use Rattle.hb_sight.proofs.Agreement.{SameGone, with_cards}
 use Rattle.hb_sight.proofs.NamedActs.{acts_of-observation}
+use Rattle.std.proofs.lemmas.Bool.{eqb-true}
 
 -- the card is the game's, where there is one
 abbrev IsOwn : Setup → ℕ → Option Identity → Type 0
@@ -40,14 +41,11 @@ own-append : (g : Setup) (order : ℕ) (xs ys : List Event) → ShowOwn g order 
 own-append g order [] ys a b = b
 own-append g order (x ∷ xs) ys a b = (a.0, own-append g order xs ys a.1 b)
 
-same-order : (k order : ℕ) → (k == order) ≡ true → k ≡ order
-same-order k order h = grind arith
-
 own-at : (g : Setup) (k order : ℕ) → IsOwn g order (cond (k == order) (Some (card g k)) None)
 own-at g k order = pick (k == order) refl
   where
     pick : (b : Bool) → (k == order) ≡ b → IsOwn g order (cond b (Some (card g k)) None)
-    pick true at = ap (card g) (same-order k order at)
+    pick true at = ap (card g) (eqb-true k order at)
     pick false at = tt
 
 own-drawn : (blind : ℕ) (g : Setup) (seat k order : ℕ) → IsOwn g order (shown_at order (blanked blind (drawn_event g seat k)))
@@ -176,10 +174,6 @@ copies-cards : (v : Variant) (id : Identity) → copies v id ≡ count_of id (ca
 unfolding copies
 copies-cards v id = refl
 
--- a deck is as long as the variant has cards
-pub cards-long : (v : Variant) (deck : List Identity) → IsDeck v deck → length deck ≡ length (cards v)
-cards-long v deck full = length-same deck (cards v) (λ id. full id ∙ copies-cards v id)
-
 -- the deck that is seen is as long as the variant has cards
 pub length-seen_deck : (seen : Observed) → length (seen_deck seen) ≡ length (cards seen.variant)
 length-seen_deck seen = length-map-range_with_len (seen_card seen.events) 0 (length (cards seen.variant))
@@ -187,7 +181,7 @@ length-seen_deck seen = length-map-range_with_len (seen_card seen.events) 0 (len
 -- and so as long as the game's own
 pub seen_deck-long : (blind : ℕ) (p : Position) → IsDeck p.setup.variant p.setup.deck.items
     → length (seen_deck (observed blind p)) ≡ length p.setup.deck.items
-seen_deck-long blind p full = length-seen_deck (observed blind p) ∙ sym (cards-long p.setup.variant p.setup.deck.items full)
+seen_deck-long blind p full = length-seen_deck (observed blind p) ∙ sym (deck-length p.setup.variant p.setup.deck.items full)
 
 -- the deck that is seen has each card that the observation shows
 pub seen_deck-shown : (blind : ℕ) (p : Position) (order : ℕ) → IsDeck p.setup.variant p.setup.deck.items
@@ -202,7 +196,7 @@ seen_deck-shown blind p order full there = pick (cases_lt order (length (cards p
         ∙ shown-card p.setup order (observation blind p.setup p.past) (own-observation blind p.setup order p.past) there
     pick (inr far) =
         let long : length (seen_deck (observed blind p)) ≡ length (cards p.setup.variant) = length-seen_deck (observed blind p) in
-        let own : length p.setup.deck.items ≡ length (cards p.setup.variant) = cards-long p.setup.variant p.setup.deck.items full in
+        let own : length p.setup.deck.items ≡ length (cards p.setup.variant) = deck-length p.setup.variant p.setup.deck.items full in
         get_or-eq_default (seen_deck (observed blind p)) (record { suit = 0; rank = 0 }) (omega (arith, long, far))
         ∙ sym (get_or-eq_default p.setup.deck.items (record { suit = 0; rank = 0 }) (omega (arith, own, far)))
 

@@ -26,7 +26,8 @@ find-passes {X} p (y ∷ ys) x is = pick (p y) refl (find-passes p ys x)
     pick true e later = let here : cond (p y) (Some y) (find p ys) ≡ Some y = rw e refl in let same : y ≡ x = cc in rw (← same) e
     pick false e later = let here : cond (p y) (Some y) (find p ys) ≡ find p ys = rw e refl in later (sym here ∙ is)
 
-choice-map : {X Y : Type 0} (f : X → Y) (b : Bool) (x : X) (o : Option X) → cond b (Some (f x)) (option_map f o) ≡ option_map f (cond b (Some x) o)
+choice-map : {X Y : Type 0} (f : X → Y) (b : Bool) (x : X) (o : Option X)
+    → cond b (Some (f x)) (option_map f o) ≡ option_map f (cond b (Some x) o)
 choice-map f true x o = refl
 choice-map f false x o = refl
 

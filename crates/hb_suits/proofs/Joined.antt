@@ -13,7 +13,8 @@ use Rattle.hb_suits.specs.Variants.{variant_with}
 use Rattle.hb_suits.specs.VariantNames.{plus, suit_name, suit_named, all_suits, pieces, are_suits, spelled}
 use Rattle.hb_suits.proofs.Finds.{find-passes}
 use Rattle.hb_suits.proofs.Places.{variant_with-none}
-use Rattle.hb_suits.proofs.Spellings.{both, spelled-named}
+use Rattle.hb_suits.proofs.Spellings.{spelled-named}
+use Rattle.std.proofs.lemmas.Bool.{and_parts}
 
 lacks-plus : (s : Suit) → list_all (λ c. not (c == plus)) (suit_name s) ≡ true
 lacks-plus suit.Red = refl
@@ -39,7 +40,9 @@ not-true false e = refl
 
 -- no suit's name has a `+`
 no-plus : (s : Suit) → All (λ c. (c == plus) ≡ false) (suit_name s)
-no-plus s k d low = not-true (get_or (suit_name s) k d == plus) (AllPass-from_list_all (λ c. not (c == plus)) (suit_name s) (lacks-plus s) k d low)
+no-plus s k d low =
+    not-true (get_or (suit_name s) k d == plus)
+    (AllPass-from_list_all (λ c. not (c == plus)) (suit_name s) (lacks-plus s) k d low)
 
 -- a suit is told by its name
 suit_named-suit_name : (s : Suit) → suit_named (suit_name s) ≡ Some s
@@ -66,7 +69,10 @@ suit_name-suit_named text s is = (bytes_eq-Decides (suit_name s) text).0 (find-p
 -- the names of suits, joined, are cut into these names
 pieces-join : (s : Suit) (suits : List Suit) → pieces (join_with_byte plus (map suit_name (s ∷ suits))) ≡ map suit_name (s ∷ suits)
 pieces-join s [] = slice_split_none (λ c. c == plus) (suit_name s) (no-plus s)
-pieces-join s (t ∷ suits) = slice_split_at (λ c. c == plus) (suit_name s) plus (join_with_byte plus (map suit_name (t ∷ suits))) (no-plus s) refl ∙ ap (λ parts. suit_name s ∷ parts) (pieces-join t suits)
+pieces-join s (t ∷ suits) =
+    slice_split_at (λ c. c == plus) (suit_name s) plus (join_with_byte plus (map suit_name (t ∷ suits)))
+    (no-plus s) refl
+    ∙ ap (λ parts. suit_name s ∷ parts) (pieces-join t suits)
 
 are_suits-names : (suits : List Suit) → are_suits (map suit_name suits) ≡ true
 are_suits-names [] = refl
@@ -81,26 +87,40 @@ pub spelled-join : (suits : List Suit) → spelled (join_with_byte plus (map sui
 unfolding spelled
 spelled-join [] = sym (variant_with-none [] None refl)
 spelled-join (s ∷ suits) =
-    let all : are_suits (pieces (join_with_byte plus (map suit_name (s ∷ suits)))) ≡ true = rw (pieces-join s suits) (are_suits-names (s ∷ suits)) in
-    spelled-named (join_with_byte plus (map suit_name (s ∷ suits))) all ∙ ap (λ xs. variant_with xs None) (ap (filter_map suit_named) (pieces-join s suits) ∙ filter_map-names (s ∷ suits))
+    let all : are_suits (pieces (join_with_byte plus (map suit_name (s ∷ suits)))) ≡ true =
+    rw (pieces-join s suits) (are_suits-names (s ∷ suits)) in
+    spelled-named (join_with_byte plus (map suit_name (s ∷ suits))) all
+    ∙ ap (λ xs. variant_with xs None)
+    (ap (filter_map suit_named) (pieces-join s suits) ∙ filter_map-names (s ∷ suits))
 
 -- texts that are names of suits are their suits' names
 names-filter_map : (parts : List (List ℕ)) → are_suits parts ≡ true → parts ≡ map suit_name (filter_map suit_named parts)
 names-filter_map [] all = refl
 names-filter_map (part ∷ parts) all =
-    let each : (is_some (suit_named part) ≡ true) × (are_suits parts ≡ true) = both (is_some (suit_named part)) (are_suits parts) all in
+    let each : (is_some (suit_named part) ≡ true) × (are_suits parts ≡ true) =
+    and_parts (is_some (suit_named part)) (are_suits parts) all in
     pick (suit_named part) refl each.0 (names-filter_map parts each.1)
   where
-    pick : (o : Option Suit) → suit_named part ≡ o → is_some (suit_named part) ≡ true → parts ≡ map suit_name (filter_map suit_named parts) → part ∷ parts ≡ map suit_name (filter_map suit_named (part ∷ parts))
+    pick : (o : Option Suit) → suit_named part ≡ o → is_some (suit_named part) ≡ true
+        → parts ≡ map suit_name (filter_map suit_named parts)
+        → part ∷ parts ≡ map suit_name (filter_map suit_named (part ∷ parts))
     pick None is some rest = let none : is_some (suit_named part) ≡ false = rw is refl in cc
-    pick (Some s) is some rest = rw is (ap (λ texts. part ∷ texts) rest ∙ ap (λ text. text ∷ map suit_name (filter_map suit_named parts)) (sym (suit_name-suit_named part s is)))
+    pick (Some s) is some rest =
+        rw is
+        (ap (λ texts. part ∷ texts) rest
+        ∙ ap (λ text. text ∷ map suit_name (filter_map suit_named parts))
+        (sym (suit_name-suit_named part s is)))
 
 -- what spells a variant is the names of its suits, joined
-pub spelled-some : (text : List ℕ) (v : Variant) → spelled text ≡ Some v → (suits : List Suit) × (text ≡ join_with_byte plus (map suit_name suits)) × (variant_with suits None ≡ Some v)
+pub spelled-some : (text : List ℕ) (v : Variant) → spelled text ≡ Some v
+    → (suits : List Suit) × (text ≡ join_with_byte plus (map suit_name suits))
+    × (variant_with suits None ≡ Some v)
 unfolding spelled
 spelled-some text v is = pick (are_suits (pieces text)) refl
   where
-    pick : (b : Bool) → are_suits (pieces text) ≡ b → (suits : List Suit) × (text ≡ join_with_byte plus (map suit_name suits)) × (variant_with suits None ≡ Some v)
+    pick : (b : Bool) → are_suits (pieces text) ≡ b
+        → (suits : List Suit) × (text ≡ join_with_byte plus (map suit_name suits))
+        × (variant_with suits None ≡ Some v)
     pick true all = (
       filter_map suit_named (pieces text),
       sym (join_with_byte-slice_split plus text) ∙ ap (join_with_byte plus) (names-filter_map (pieces text) all),

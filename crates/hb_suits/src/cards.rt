@@ -6,7 +6,9 @@ ghost use Rattle.hb_sets.specs.Sets.{bit};
 
 use crate::numbers::identity;
 use crate::suits::suit_at;
-use hb_rules::{HIGHEST_RANK, IDENTITIES, Identity, MOST_SUITS, Suit, Variant};
+use hb_rules::{
+    FEWEST_CARDS, HIGHEST_RANK, IDENTITIES, Identity, MOST_CARDS, MOST_SUITS, Suit, Variant,
+};
 use hb_sets::with;
 
 /// How many cards of a rank of 1 to 5 a suit has, and 0 if there is no suit.
@@ -58,8 +60,8 @@ fn suit_size(variant: &Variant, index: u8) -> u8
 /// The number of cards of a deck of the variant, 25 to 60.
 pub fn deck_size(variant: &Variant) -> u8
     ensures size { result ≡ length (cards variant.now) }
-    ensures many { 25 ≤ result }
-    ensures few { result ≤ 60 }
+    ensures many { FEWEST_CARDS ≤ result }
+    ensures few { result ≤ MOST_CARDS }
 {
     let mut size = 0;
     for index in 0..MOST_SUITS as u8 {

@@ -105,7 +105,7 @@ fn suit_named(name: &str) -> Option<Suit>
 fn plain_count(name: &str) -> Option<usize>
     ensures { let found = find (λ entry. bytes_eq entry.name name.now) plain_table in
         MatchOption result (found ≡ None)
-        (λ count. (count ≤ 6) × (found ≡ Some (plain name.now count))) }
+        (λ count. (count ≤ MOST_SUITS) × (found ≡ Some (plain name.now count))) }
 {
     match name {
         "3 Suits" => Some(3),

@@ -6,7 +6,7 @@ ghost use Rattle.hb_rules.specs.Cards.{suit_at, suit_count};
 ghost use Rattle.hb_rules.specs.Touch.{colors, suit_kind};
 
 use arrayvec::ArrayVec;
-use hb_rules::{Kind, MOST_SUITS, Suit, Variant};
+use hb_rules::{FEWEST_SUITS, Kind, MOST_SUITS, Suit, Variant};
 
 /// The kind of a suit (this project's own, under Hanabi Live's names).
 pub fn kind_of(suit: Suit) -> Kind
@@ -47,8 +47,8 @@ pub fn suit_at(variant: &Variant, index: u8) -> Option<Suit>
 /// How many suits the variant has, 3 to 6. They have the indices below this number.
 pub fn suit_count(variant: &Variant) -> u8
     ensures count { result ≡ suit_count variant.now }
-    ensures many { 3 ≤ result }
-    ensures few { result ≤ 6 }
+    ensures many { FEWEST_SUITS ≤ result }
+    ensures few { result ≤ MOST_SUITS }
 {
     variant.suits.iter().filter(|suit| suit.is_some()).count() as u8
 }
@@ -77,7 +77,7 @@ pub fn color_suits(variant: &Variant) -> ArrayVec<u8, MOST_SUITS>
 /// The number of the variant's clue colours, at most 6.
 pub fn colors(variant: &Variant) -> u8
     ensures colors { result ≡ length (colors variant.now) }
-    ensures few { result ≤ 6 }
+    ensures few { result ≤ MOST_SUITS }
 {
     color_suits(variant).len() as u8
 }

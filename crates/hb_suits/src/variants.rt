@@ -6,10 +6,7 @@ ghost use Rattle.hb_rules.specs.Suits.{suit_number, kind_of, has_color, is_plain
 ghost use Rattle.hb_suits.specs.Variants.{placed, variant_with};
 
 use crate::suits::{has_color, kind_of};
-use hb_rules::{HIGHEST_RANK, Kind, MOST_SUITS, Special, Suit, Variant};
-
-/// A variant has at least this many suits (this project's own).
-const LEAST_SUITS: usize = 3;
+use hb_rules::{FEWEST_SUITS, HIGHEST_RANK, Kind, MOST_SUITS, Special, Suit, Variant};
 
 /// Whether the two are one suit.
 fn is_same(a: Suit, b: Suit) -> bool
@@ -70,7 +67,7 @@ fn stands_over(special: Option<Special>, suits: &[Suit]) -> bool
 fn is_variant(suits: &[Suit], special: Option<Special>) -> bool
     ensures { result ≡ is_variant (placed suits.now) special }
 {
-    (LEAST_SUITS..=MOST_SUITS).contains(&suits.len())
+    (FEWEST_SUITS..=MOST_SUITS).contains(&suits.len())
         && all_different(suits)
         && have_color(suits)
         && stands_over(special, suits)

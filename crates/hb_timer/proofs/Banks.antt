@@ -67,17 +67,24 @@ bank-call timing call calls seat same =
     let within : turn_number calls ≤ turn_number calls = omega arith in
     let bank_in : ℕ → ℕ = λ turn.
     if seat_of_turn timing turn == seat
-    then bank_after timing (call ∷ calls) seat turn - (own_time timing turn (call ∷ calls) + since timing (call ∷ calls) (effective timing (call ∷ calls)))
+    then bank_after timing (call ∷ calls) seat turn
+    - (own_time timing turn (call ∷ calls) + since timing (call ∷ calls) (effective timing (call ∷ calls)))
     else bank_after timing (call ∷ calls) seat turn in
     let P : ℕ → Type 0 = λ turn. bank_in turn ≡ bank timing calls seat (call_moment call) in
     subst P (sym same)
-    (rw (since-effective timing (call ∷ calls), bank_after-call timing call calls seat (turn_number calls) within, own_time-same timing call calls)
+    (rw (
+      since-effective timing (call ∷ calls),
+      bank_after-call timing call calls seat (turn_number calls) within,
+      own_time-same timing call calls,
+    )
     (rw add-zero refl))
 
 -- the end of a turn adds the gain to its seat's bank, up to the limit, and leaves the others as they were
 pub bank-turn : (timing : Timing) (moment : ℕ) (calls : List TimerCall) (seat : ℕ)
     → bank timing (TurnEnds moment ∷ calls) seat (effective timing (TurnEnds moment ∷ calls))
-    ≡ (if turn_seat timing calls == seat then min BANK_LIMIT (bank timing calls seat moment + timing.per_turn) else bank timing calls seat moment)
+    ≡ (if turn_seat timing calls == seat
+    then min BANK_LIMIT (bank timing calls seat moment + timing.per_turn)
+    else bank timing calls seat moment)
 bank-turn timing moment calls seat =
     let within : turn_number calls ≤ turn_number calls = omega arith in
     let ahead : turn_number calls < turn_number calls + 1 = omega arith in
@@ -85,10 +92,17 @@ bank-turn timing moment calls seat =
     let none : own_time timing (turn_number calls + 1) (TurnEnds moment ∷ calls) ≡ 0 =
     own_time-other timing (turn_number calls + 1) (TurnEnds moment) calls other
     ∙ own_time-ahead timing (turn_number calls + 1) calls ahead in
-    let after : ℕ = if turn_seat timing calls == seat then min BANK_LIMIT (bank timing calls seat moment + timing.per_turn) else bank timing calls seat moment in
+    let after : ℕ =
+    if turn_seat timing calls == seat then min BANK_LIMIT (bank timing calls seat moment + timing.per_turn)
+    else bank timing calls seat moment in
     let next : bank_after timing (TurnEnds moment ∷ calls) seat (turn_number calls + 1) ≡ after =
-    rw (add-one (turn_number calls), bank_after-call timing (TurnEnds moment) calls seat (turn_number calls) within, own_time-same timing (TurnEnds moment) calls)
-    (gains (turn_seat timing calls == seat) (bank_after timing calls seat (turn_number calls)) (own_time timing (turn_number calls) calls + since timing calls moment) timing.per_turn) in
+    rw (
+      add-one (turn_number calls),
+      bank_after-call timing (TurnEnds moment) calls seat (turn_number calls) within,
+      own_time-same timing (TurnEnds moment) calls,
+    )
+    (gains (turn_seat timing calls == seat) (bank_after timing calls seat (turn_number calls))
+    (own_time timing (turn_number calls) calls + since timing calls moment) timing.per_turn) in
     rw (none, since-effective timing (TurnEnds moment ∷ calls))
     (cond_both (seat_of_turn timing (turn_number calls + 1) == seat) _ _ (λ n. n ≡ after) (λ _. rw sub-zero next) (λ _. next))
   where
@@ -105,7 +119,8 @@ pub bank-later : (timing : Timing) (calls : List TimerCall) (seat moment : ℕ)
     then bank timing calls seat (effective timing calls) - (moment - effective timing calls)
     else bank timing calls seat (effective timing calls))
 bank-later timing calls seat moment =
-    runs (is_running calls) (turn_seat timing calls == seat) (bank_after timing calls seat (turn_number calls)) (own_time timing (turn_number calls) calls) moment (effective timing calls)
+    runs (is_running calls) (turn_seat timing calls == seat) (bank_after timing calls seat (turn_number calls))
+    (own_time timing (turn_number calls) calls) moment (effective timing calls)
   where
     runs : (running mine : Bool) (before own moment now : ℕ)
         → (if mine then before - (own + (if running then moment - now else 0)) else before)
@@ -122,7 +137,8 @@ pub bank_after-limit : (timing : Timing) (calls : List TimerCall) (seat turn : �
     → timing.base ≤ BANK_LIMIT → bank_after timing calls seat turn ≤ BANK_LIMIT
 bank_after-limit timing calls seat zero base = base
 bank_after-limit timing calls seat (suc turn) base =
-    cond_both (seat_of_turn timing turn == seat) _ _ (λ n. n ≤ BANK_LIMIT) (λ _. omega arith) (λ _. bank_after-limit timing calls seat turn base)
+    cond_both (seat_of_turn timing turn == seat) _ _ (λ n. n ≤ BANK_LIMIT) (λ _. omega arith)
+    (λ _. bank_after-limit timing calls seat turn base)
 
 -- so no bank is above it
 pub bank-limit : (timing : Timing) (calls : List TimerCall) (seat moment : ℕ)

@@ -8,7 +8,8 @@ abbrev pub Holds : (ℕ → Bool) → ℕ → ℕ → Type 0
 Holds passes n set = (k : ℕ) → (bit set k == 1) ≡ (nat_lt k n && passes k)
 
 -- n passes and is put in
-pub Holds-with : (passes : ℕ → Bool) (n before after : ℕ) → Holds passes n before → passes n ≡ true → Has after n → ((k : ℕ) → k ≢ n → bit after k ≡ bit before k) → Holds passes (n + 1) after
+pub Holds-with : (passes : ℕ → Bool) (n before after : ℕ) → Holds passes n before → passes n ≡ true
+    → Has after n → ((k : ℕ) → k ≢ n → bit after k ≡ bit before k) → Holds passes (n + 1) after
 Holds-with passes n before after held passed put rest k = pick (k == n) refl
   where
     pick : (b : Bool) → (k == n) ≡ b → (bit after k == 1) ≡ (nat_lt k (n + 1) && passes k)

@@ -1,5 +1,5 @@
 -- What an act that breaks no rule needs, and what it leaves.
-use Rattle.std.proofs.Common.{Bool, ◌≡◌, ℕ, ◌+◌, ◌<◌, ◌≤◌, List, [], ◌∷◌, ◌++◌, length, Option, Some, None, true, false, refl, ◌∙◌, arith, reverse}
+use Rattle.std.proofs.Common.{Bool, ◌≡◌, ℕ, ◌+◌, ◌<◌, ◌≤◌, List, [], ◌∷◌, ◌++◌, length, Option, Some, None, true, false, ◌∙◌, arith, reverse}
 use Rattle.std.specs.Prelude.{All, is_some, nat_lt, nat_le, ◌&&◌, ◌==◌}
 use Rattle.std.specs.List.{range_with_len}
 use Rattle.std.proofs.lemmas.List.Elements.{All-filter, All-from_get_or}
@@ -30,7 +30,9 @@ use Rattle.hb_turns.proofs.Fair.{held-below}
 use Rattle.hb_turns.proofs.Seats.{current-lt}
 use Rattle.hb_turns.proofs.EndLemmas.{end-is}
 use Rattle.hb_turns.proofs.Bounds.{has-room, few-acts, not-called}
-use Rattle.hb_turns.proofs.Steps.{table-play, table-discard, table-clue, table-end}
+use Rattle.hb_turns.proofs.PlayTable.{table-play, table-discard}
+use Rattle.hb_turns.proofs.ClueTable.{table-clue, table-end}
+use Rattle.hb_rules.proofs.Hands.{is_at-true}
 
 -- room for one more act and for one more of each count, and no end was called
 pub record IsReady (past : List Act) (t : Table) : Type 0 where
@@ -39,8 +41,10 @@ pub record IsReady (past : List Act) (t : Table) : Type 0 where
   pub uncalled : called past ≡ None
 
 -- an act that breaks no rule finds the room that it needs
-pub ready : (g : Setup) (past : List Act) (t : Table) (masks : ClueMasks) (end : Option EndHow) (who : ℕ) (act : Action) → IsGame g past t masks end → rule g past (record { who = who; action = act }) ≡ None → IsReady past t
-ready g past t masks end who act game may =
+pub is-ready : (g : Setup) (past : List Act) (t : Table) (masks : ClueMasks) (end : Option EndHow) (who : ℕ)
+    (act : Action)
+    → IsGame g past t masks end → rule g past (record { who = who; action = act }) ≡ None → IsReady past t
+is-ready g past t masks end who act game may =
     let runs : is_some (ended g past) ≡ false = may_runs g past who act may in
     let few : length past < 160 = few-acts g past game.fair game.legal runs in
     record { acts = few; counts = has-room g past t game.fair game.table (omega arith); uncalled = (not-called g past runs).0 }
@@ -51,12 +55,12 @@ in-range suit rank a b c = grind arith
 -- an order of the deck
 pub deck-order : (g : Setup) (order : ℕ) → IsFair g → order < length g.deck.items → IsCard g order
 deck-order g order fair below =
-    record { long = fair.long; below = below; id = in-range (card g order).suit (card g order).rank (fair.suits order below) (fair.ranks order below).0 (fair.ranks order below).1 }
-
--- the number is there
-at-some : (o : Option ℕ) (k : ℕ) → is_at o k ≡ true → o ≡ Some k
-at-some (Some n) k h = let e : n ≡ k = grind arith in rw e refl
-at-some None k h = cc
+    record {
+      long = fair.long;
+      below = below;
+      id = in-range (card g order).suit (card g order).rank (fair.suits order below) (fair.ranks order below).0
+          (fair.ranks order below).1;
+    }
 
 -- an order that a seat holds is a card of the deck
 held-card : (g : Setup) (past : List Act) (who order : ℕ) → IsFair g → is_at (holder g past order) who ≡ true → IsCard g order
@@ -66,72 +70,125 @@ held-card g past who order fair held =
     deck-order g order fair below
 
 -- what is played or discarded is a card of the deck
-pub play-card : (g : Setup) (past : List Act) (t : Table) (masks : ClueMasks) (end : Option EndHow) (who order : ℕ) → IsGame g past t masks end → rule g past (record { who = who; action = action.Play order }) ≡ None → IsCard g order
+pub play-card : (g : Setup) (past : List Act) (t : Table) (masks : ClueMasks) (end : Option EndHow)
+    (who order : ℕ)
+    → IsGame g past t masks end → rule g past (record { who = who; action = action.Play order }) ≡ None
+    → IsCard g order
 play-card g past t masks end who order game may = held-card g past who order game.fair (may_play g past who order may).held
 
 -- what is discarded is a card of the deck
-pub discard-card : (g : Setup) (past : List Act) (t : Table) (masks : ClueMasks) (end : Option EndHow) (who order : ℕ) → IsGame g past t masks end → rule g past (record { who = who; action = action.Discard order }) ≡ None → IsCard g order
+pub discard-card : (g : Setup) (past : List Act) (t : Table) (masks : ClueMasks) (end : Option EndHow)
+    (who order : ℕ)
+    → IsGame g past t masks end → rule g past (record { who = who; action = action.Discard order }) ≡ None
+    → IsCard g order
 discard-card g past t masks end who order game may = held-card g past who order game.fair (may_discard g past who order may).held
 
 -- the seat that plays or discards has the order
-pub play-takes : (g : Setup) (past : List Act) (who order : ℕ) → IsFair g → rule g past (record { who = who; action = action.Play order }) ≡ None → (who < 6) × (holder g past order ≡ Some who)
+pub play-takes : (g : Setup) (past : List Act) (who order : ℕ) → IsFair g
+    → rule g past (record { who = who; action = action.Play order }) ≡ None
+    → (who < 6) × (holder g past order ≡ Some who)
 play-takes g past who order fair may = let m : MayPlay g past who order = may_play g past who order may in
-    let low : who < g.players = current-lt g past who fair.two m.turn in (omega (arith, fair.six), at-some (holder g past order) who m.held)
+    let low : who < g.players = current-lt g past who fair.two m.turn in
+    (omega (arith, fair.six), is_at-true (holder g past order) who m.held)
 
 -- the seat that discards has the order
-pub discard-takes : (g : Setup) (past : List Act) (who order : ℕ) → IsFair g → rule g past (record { who = who; action = action.Discard order }) ≡ None → (who < 6) × (holder g past order ≡ Some who)
+pub discard-takes : (g : Setup) (past : List Act) (who order : ℕ) → IsFair g
+    → rule g past (record { who = who; action = action.Discard order }) ≡ None
+    → (who < 6) × (holder g past order ≡ Some who)
 discard-takes g past who order fair may = let m : MayDiscard g past who order = may_discard g past who order may in
-    let low : who < g.players = current-lt g past who fair.two m.turn in (omega (arith, fair.six), at-some (holder g past order) who m.held)
+    let low : who < g.players = current-lt g past who fair.two m.turn in
+    (omega (arith, fair.six), is_at-true (holder g past order) who m.held)
 
 -- the game after an act, whose list of acts is one longer
-after : (g : Setup) (items : List Act) (t : Table) (masks : ClueMasks) (end : Option EndHow) (act : Act) → IsFair g → AreClueMasks g.variant masks → rule g (reverse items) act ≡ None → Legal g (reverse items)
+game-after : (g : Setup) (items : List Act) (t : Table) (masks : ClueMasks) (end : Option EndHow) (act : Act)
+    → IsFair g → AreClueMasks g.variant masks → rule g (reverse items) act ≡ None → Legal g (reverse items)
     → IsTable g (act ∷ reverse items) t → end ≡ table_end g t → IsGame g (reverse (items ++ act ∷ [])) t masks end
-after g items t masks end act fair sets may legal kept is = rw reverse-append (record { fair = fair; legal = (may, legal); table = kept; masks = sets; ended = is ∙ end-is g (act ∷ reverse items) t fair kept })
+game-after g items t masks end act fair sets may legal kept is =
+    rw reverse-append
+    (record {
+      fair = fair;
+      legal = (may, legal);
+      table = kept;
+      masks = sets;
+      ended = is ∙ end-is g (act ∷ reverse items) t fair kept;
+    })
 
 -- the game after a play
-pub after-play : (g : Setup) (items : List Act) (t : Table) (masks : ClueMasks) (end then : Option EndHow) (who order : ℕ) → IsGame g (reverse items) t masks end
+pub after-play : (g : Setup) (items : List Act) (t : Table) (masks : ClueMasks) (end then : Option EndHow)
+    (who order : ℕ)
+    → IsGame g (reverse items) t masks end
     → rule g (reverse items) (record { who = who; action = action.Play order }) ≡ None → then ≡ table_end g (play_table g t who order)
     → IsGame g (reverse (items ++ record { who = who; action = action.Play order } ∷ [])) (play_table g t who order) masks then
 after-play g items t masks end then who order game may is =
     let takes : (who < 6) × (holder g (reverse items) order ≡ Some who) = play-takes g (reverse items) who order game.fair may in
-    after g items (play_table g t who order) masks then (record { who = who; action = action.Play order }) game.fair game.masks may game.legal
-    (table-play g (reverse items) t who order game.fair game.legal (ready g (reverse items) t masks end who (action.Play order) game may).uncalled (play-card g (reverse items) t masks end who order game may) takes.0 takes.1 game.table) is
+    game-after g items (play_table g t who order) masks
+    then (record { who = who; action = action.Play order }) game.fair game.masks may game.legal
+    (table-play g (reverse items) t who order game.fair game.legal
+    (is-ready g (reverse items) t masks end who (action.Play order) game may).uncalled
+    (play-card g (reverse items) t masks end who order game may) takes.0 takes.1 game.table)
+    is
 
 -- the game after a discard
-pub after-discard : (g : Setup) (items : List Act) (t : Table) (masks : ClueMasks) (end then : Option EndHow) (who order : ℕ) → IsGame g (reverse items) t masks end
+pub after-discard : (g : Setup) (items : List Act) (t : Table) (masks : ClueMasks) (end then : Option EndHow)
+    (who order : ℕ)
+    → IsGame g (reverse items) t masks end
     → rule g (reverse items) (record { who = who; action = action.Discard order }) ≡ None → then ≡ table_end g (discard_table g t who order)
     → IsGame g (reverse (items ++ record { who = who; action = action.Discard order } ∷ [])) (discard_table g t who order) masks then
 after-discard g items t masks end then who order game may is =
     let takes : (who < 6) × (holder g (reverse items) order ≡ Some who) = discard-takes g (reverse items) who order game.fair may in
-    after g items (discard_table g t who order) masks then (record { who = who; action = action.Discard order }) game.fair game.masks may game.legal
-    (table-discard g (reverse items) t who order game.fair game.legal (ready g (reverse items) t masks end who (action.Discard order) game may).uncalled (discard-card g (reverse items) t masks end who order game may) takes.0 takes.1 game.table) is
+    game-after g items (discard_table g t who order) masks
+    then (record { who = who; action = action.Discard order }) game.fair game.masks may game.legal
+    (table-discard g (reverse items) t who order game.fair game.legal
+    (is-ready g (reverse items) t masks end who (action.Discard order) game may).uncalled
+    (discard-card g (reverse items) t masks end who order game may) takes.0 takes.1 game.table)
+    is
 
 -- the game after a clue
-pub after-clue : (g : Setup) (items : List Act) (t : Table) (masks : ClueMasks) (end then : Option EndHow) (who to : ℕ) (clue : Clue) (marks held : List ℕ) (touched : ℕ) → IsGame g (reverse items) t masks end
-    → rule g (reverse items) (record { who = who; action = action.Clue to clue }) ≡ None → held ≡ hand g (reverse items) to → IsMask g.variant clue touched
+pub after-clue : (g : Setup) (items : List Act) (t : Table) (masks : ClueMasks) (end then : Option EndHow)
+    (who to : ℕ) (clue : Clue) (marks held : List ℕ) (touched : ℕ)
+    → IsGame g (reverse items) t masks end
+    → rule g (reverse items) (record { who = who; action = action.Clue to clue }) ≡ None
+    → held ≡ hand g (reverse items) to → IsMask g.variant clue touched
     → IsNarrowed g held masks.all touched t.marks marks → then ≡ table_end g (record (clue_table t) { marks = marks })
-    → IsGame g (reverse (items ++ record { who = who; action = action.Clue to clue } ∷ [])) (record (clue_table t) { marks = marks }) masks then
+    → IsGame g (reverse (items ++ record { who = who; action = action.Clue to clue } ∷ []))
+    (record (clue_table t) { marks = marks }) masks
+    then
 after-clue g items t masks end then who to clue marks held touched game may here mask narrowed is =
-    after g items (record (clue_table t) { marks = marks }) masks then (record { who = who; action = action.Clue to clue }) game.fair game.masks may game.legal
-    (table-clue g (reverse items) t who to clue marks held masks.all touched game.fair (ready g (reverse items) t masks end who (action.Clue to clue) game may).uncalled game.table here game.masks.all mask narrowed) is
+    game-after g items (record (clue_table t) { marks = marks }) masks
+    then (record { who = who; action = action.Clue to clue }) game.fair game.masks may game.legal
+    (table-clue g (reverse items) t who to clue marks held masks.all touched game.fair
+    (is-ready g (reverse items) t masks end who (action.Clue to clue) game may).uncalled game.table here
+    game.masks.all mask narrowed)
+    is
 
 -- the game after a called end
-pub after-end : (g : Setup) (items : List Act) (t : Table) (masks : ClueMasks) (end then : Option EndHow) (who : ℕ) (how : EndHow) → IsGame g (reverse items) t masks end
+pub after-end : (g : Setup) (items : List Act) (t : Table) (masks : ClueMasks) (end then : Option EndHow)
+    (who : ℕ) (how : EndHow)
+    → IsGame g (reverse items) t masks end
     → rule g (reverse items) (record { who = who; action = action.End how }) ≡ None → then ≡ table_end g (record t { called = Some how })
     → IsGame g (reverse (items ++ record { who = who; action = action.End how } ∷ [])) (record t { called = Some how }) masks then
 after-end g items t masks end then who how game may is =
-    after g items (record t { called = Some how }) masks then (record { who = who; action = action.End how }) game.fair game.masks may game.legal (table-end g (reverse items) t who how game.table) is
+    game-after g items (record t { called = Some how }) masks
+    then (record { who = who; action = action.End how }) game.fair game.masks may game.legal
+    (table-end g (reverse items) t who how game.table) is
 
 bit-le : (a b : ℕ) (has fits : Bool) → a < 2 → b < 2 → (b == 1) ≡ has → (a == 1) ≡ (has && fits) → a ≤ b
 bit-le a b true fits low low' e f = grind arith
 bit-le a b false fits low low' e f = grind arith
 
 -- a clue touches no identity but those of the variant
-pub within-all : (v : Variant) (masks : ClueMasks) (clue : Clue) (touched : ℕ) → AreClueMasks v masks → IsMask v clue touched → (n : ℕ) → bit touched n ≤ bit masks.all n
-within-all v masks clue touched sets mask n = bit-le (bit touched n) (bit masks.all n) (has_number v n) (touches v clue (identity n)) (bit-lt touched n) (bit-lt masks.all n) (sets.all n) (mask n)
+pub within-all : (v : Variant) (masks : ClueMasks) (clue : Clue) (touched : ℕ) → AreClueMasks v masks
+    → IsMask v clue touched → (n : ℕ) → bit touched n ≤ bit masks.all n
+within-all v masks clue touched sets mask n =
+    bit-le (bit touched n) (bit masks.all n) (has_number v n) (touches v clue (identity n)) (bit-lt touched n)
+    (bit-lt masks.all n) (sets.all n) (mask n)
 
 -- the orders of a hand are cards of the deck
 pub hand-cards : (g : Setup) (past : List Act) (to : ℕ) (held : List ℕ) → IsFair g → held ≡ hand g past to → All (IsCard g) held
-hand-cards g past to held fair is = rw is (All-filter (λ order. is_at (holder g past order) to) (IsCard g) (range_with_len 0 (length g.deck.items))
-    (All-from_get_or (IsCard g) (range_with_len 0 (length g.deck.items)) 0 (λ i low. let below : i < length g.deck.items = omega (arith, low, length-range_with_len 0 (length g.deck.items)) in
+hand-cards g past to held fair is =
+    rw is
+    (All-filter (λ order. is_at (holder g past order) to) (IsCard g) (range_with_len 0 (length g.deck.items))
+    (All-from_get_or (IsCard g) (range_with_len 0 (length g.deck.items)) 0
+    (λ i low. let below : i < length g.deck.items =
+    omega (arith, low, length-range_with_len 0 (length g.deck.items)) in
     let at : 0 + i ≡ i = omega arith in rw (get_or-range_with_len 0 (length g.deck.items) i 0 below, at) (deck-order g i fair below))))

@@ -19,8 +19,8 @@ set-below P xs i w low before here c near = ⊎_elim
     (λ (ne : c ≢ i). rw get_or-set_other (before c (omega arith)))
     (cases_eq c i)
 
-below : (a b : ℕ) → nat_lt a b ≡ true → a < b
-below a b h = grind arith
+nat_lt-true : (a b : ℕ) → nat_lt a b ≡ true → a < b
+nat_lt-true a b h = grind arith
 
 -- a variant has at most six clue colours
 pub colors-le : (v : Variant) → length (colors v) ≤ 6
@@ -29,4 +29,4 @@ colors-le v = let p : ℕ → Bool = λ i. has_color (suit_kind (suit_at v i)) i
 
 -- and so a colour clue that it offers has one of six indices
 pub color-lt : (v : Variant) (c : ℕ) → offers v (clue.Color c) ≡ true → c < 6
-color-lt v c offered = let low : c < length (colors v) = below c (length (colors v)) offered in omega (arith, low, colors-le v)
+color-lt v c offered = let low : c < length (colors v) = nat_lt-true c (length (colors v)) offered in omega (arith, low, colors-le v)

@@ -1,14 +1,10 @@
 -- The end that a table says is that of the acts.
-use Rattle.std.proofs.Common.{cond, Option, Some, None, [], ◌∷◌, ◌-◌, ◌≡◌, ℕ, ◌+◌, ◌*◌, ◌<◌, ◌≤◌, Bool, true, List, refl, ap, arith, length, zero, suc}
-use Rattle.std.specs.Prelude.{◌==◌, ◌||◌, ◌&&◌, nat_le, slice_index, count_by, is_some, filter_map}
-use Rattle.std.specs.List.{list_all, list_any, range_with_len}
-use Rattle.std.proofs.lemmas.List.Sums.{sum_by-cons}
+use Rattle.std.proofs.Common.{◌-◌, ◌≡◌, ℕ, ◌+◌, ◌*◌, ◌<◌, ◌≤◌, Bool, List, refl, ap, arith, zero, suc}
+use Rattle.std.specs.Prelude.{◌==◌, ◌||◌, nat_le, slice_index}
+use Rattle.std.specs.List.{list_all, range_with_len}
 use Rattle.hb_rules.specs.declared.acts.Act.{Act}
 use Rattle.hb_rules.specs.declared.suits.Identity.{Identity}
-use Rattle.hb_rules.specs.declared.suits.Suit.{Suit}
-use Rattle.hb_rules.specs.Suits.{are_first, all_different, has_color, kind_of, stands_over}
 use Rattle.hb_rules.specs.declared.setups.Setup.{Setup}
-use Rattle.hb_rules.specs.declared.variants.Variant.{Variant}
 use Rattle.hb_rules.specs.Cards.{copies, suit_count}
 use Rattle.hb_rules.specs.Result.{height, is_stuck, ended}
 use Rattle.hb_rules.proofs.Heights.{height-le}
@@ -16,29 +12,17 @@ use Rattle.hb_turns.specs.GameInvariant.{IsFair, IsTable}
 use Rattle.hb_turns.specs.TableSteps.{table_end, is_stuck as is_stuck_on}
 use Rattle.hb_turns.proofs.Fair.{rank-le}
 use Rattle.hb_turns.specs.declared.table.Table.{Table}
+use Rattle.hb_rules.proofs.SuitCount.{suit_count-few}
 
 -- two tests that agree below a bound
-list_all-same : (p q : ℕ → Bool) (a n bound : ℕ) → a + n ≤ bound → ((k : ℕ) → k < bound → p k ≡ q k) → list_all p (range_with_len a n) ≡ list_all q (range_with_len a n)
+list_all-same : (p q : ℕ → Bool) (a n bound : ℕ) → a + n ≤ bound → ((k : ℕ) → k < bound → p k ≡ q k)
+    → list_all p (range_with_len a n) ≡ list_all q (range_with_len a n)
 list_all-same p q a zero bound low same = refl
 list_all-same p q a (suc n) bound low same =
     let here : p a ≡ q a = same a (omega arith) in
-    let ih : list_all p (range_with_len (a + 1) n) ≡ list_all q (range_with_len (a + 1) n) = list_all-same p q (a + 1) n bound (omega arith) same in
+    let ih : list_all p (range_with_len (a + 1) n) ≡ list_all q (range_with_len (a + 1) n) =
+    list_all-same p q (a + 1) n bound (omega arith) same in
     rw (here, ih) refl
-
-suits-counted : (places : List (Option Suit)) → count_by is_some places ≡ length (filter_map (λ p. p) places)
-suits-counted [] = refl
-suits-counted (None ∷ places) = omega (arith, sum_by-cons (λ (p : Option Suit). cond (is_some p) 1 0) None places, suits-counted places)
-suits-counted (Some s ∷ places) = omega (arith, sum_by-cons (λ (p : Option Suit). cond (is_some p) 1 0) (Some s) places, suits-counted places)
-
-third : (a b c d e f : Bool) → (a && b && c && d && e && f) ≡ true → c ≡ true
-third a b c d e f h = grind arith
-
-six-suits : (v : Variant) → suit_count v ≤ 6
-six-suits v =
-    let suits : List Suit = filter_map (λ p. p) v.suits in
-    let few : nat_le (length suits) 6 ≡ true = third (are_first v.suits) (nat_le 3 (length suits)) (nat_le (length suits) 6) (all_different suits) (list_any (λ s. has_color (kind_of s)) suits) (stands_over v.special suits) v.valid in
-    let short : length suits ≤ 6 = grind arith in
-    omega (arith, short, suits-counted v.suits)
 
 stuck-same : (h h' : ℕ) (x y : Bool) → h ≡ h' → h' ≤ 5 → (h' < 5 → x ≡ y) → (nat_le 5 h || x) ≡ (h' == 5 || y)
 stuck-same h h' x y e low is = grind (arith, is)
@@ -57,6 +41,8 @@ stuck-is g past t fair kept s low =
 pub end-is : (g : Setup) (past : List Act) (t : Table) → IsFair g → IsTable g past t → table_end g t ≡ ended g past
 unfolding ended
 end-is g past t fair kept =
-    let stuck : list_all (is_stuck_on g t) (range_with_len 0 (suit_count g.variant)) ≡ list_all (is_stuck g past) (range_with_len 0 (suit_count g.variant)) =
-    list_all-same (is_stuck_on g t) (is_stuck g past) 0 (suit_count g.variant) 6 (omega (arith, six-suits g.variant)) (λ s low. stuck-is g past t fair kept s low) in
+    let stuck : list_all (is_stuck_on g t) (range_with_len 0 (suit_count g.variant))
+    ≡ list_all (is_stuck g past) (range_with_len 0 (suit_count g.variant)) =
+    list_all-same (is_stuck_on g t) (is_stuck g past) 0 (suit_count g.variant) 6
+    (omega (arith, suit_count-few g.variant)) (λ s low. stuck-is g past t fair kept s low) in
     rw (kept.called, kept.strikes, kept.emptied, kept.turns, stuck) refl

@@ -26,17 +26,23 @@ bit-power order k = ⊎_elim
 
 moved-bit : (a x y order next k : ℕ) (draws : Bool) → a < 2 → (order ≡ k → a ≡ 1)
     → x ≡ (if order == k then 1 else 0) → y ≡ (if next == k then 1 else 0) → (draws ≡ true → order ≢ next)
-    → ((if draws then max ((a + x) % 2) y else (a + x) % 2) == 1) ≡ (if order == k then false else (if draws && next == k then true else a == 1))
+    → ((if draws then max ((a + x) % 2) y else (a + x) % 2) == 1)
+    ≡ (if order == k then false else (if draws && next == k then true else a == 1))
 moved-bit a x y order next k true low has ex ey other = grind (arith, other)
 moved-bit a x y order next k false low has ex ey other = grind arith
 
 -- the orders of a hand that has changed
 moved_hand-bit : (hand order next k : ℕ) (draws : Bool) → bit hand order ≡ 1 → (draws ≡ true → order ≢ next)
-    → (bit (moved_hand hand order next draws) k == 1) ≡ (if order == k then false else (if draws && next == k then true else bit hand k == 1))
+    → (bit (moved_hand hand order next draws) k == 1)
+    ≡ (if order == k then false else (if draws && next == k then true else bit hand k == 1))
 moved_hand-bit hand order next k true has other =
-    rw (bit-or, bit-xor) (moved-bit (bit hand k) (bit (2 ^ order) k) (bit (2 ^ next) k) order next k true (bit-lt hand k) (λ e. rw (← e) has) (bit-power order k) (bit-power next k) other)
+    rw (bit-or, bit-xor)
+    (moved-bit (bit hand k) (bit (2 ^ order) k) (bit (2 ^ next) k) order next k true (bit-lt hand k)
+    (λ e. rw (← e) has) (bit-power order k) (bit-power next k) other)
 moved_hand-bit hand order next k false has other =
-    rw bit-xor (moved-bit (bit hand k) (bit (2 ^ order) k) (bit (2 ^ next) k) order next k false (bit-lt hand k) (λ e. rw (← e) has) (bit-power order k) (bit-power next k) other)
+    rw bit-xor
+    (moved-bit (bit hand k) (bit (2 ^ order) k) (bit (2 ^ next) k) order next k false (bit-lt hand k)
+    (λ e. rw (← e) has) (bit-power order k) (bit-power next k) other)
 
 same-seat : (order next k who : ℕ) (draws had : Bool) (o : Option ℕ) → had ≡ is_at o who
     → (if order == k then false else (if draws && next == k then true else had))
@@ -58,9 +64,12 @@ pub hands-more : (hands : List ℕ) (g : Setup) (past : List Act) (who order nex
     ≡ is_at (if order == k then None else (if (if draws then next == k else false) then Some who else holder g past k)) s
 hands-more hands g past who order next s k draws long who_low held free before low = let inside : who < length hands = omega arith in ⊎_elim
     (λ (e : s ≡ who). rw e (rw get_or-set_same (
-    moved_hand-bit (slice_index hands who) order next k draws has other ∙ same-seat order next k who draws (bit (slice_index hands who) k == 1) (holder g past k) (before who k who_low))))
+    moved_hand-bit (slice_index hands who) order next k draws has other
+    ∙ same-seat order next k who draws (bit (slice_index hands who) k == 1) (holder g past k)
+    (before who k who_low))))
     (λ (ne : s ≢ who). rw get_or-set_other (
-    other-seat order next k who s draws (bit (slice_index hands s) k == 1) (holder g past k) ne (before s k low) (λ e. rw (← e) held) (λ d e. rw (← e) (free d))))
+    other-seat order next k who s draws (bit (slice_index hands s) k == 1) (holder g past k) ne (before s k low)
+    (λ e. rw (← e) held) (λ d e. rw (← e) (free d))))
     (cases_eq s who)
   where
     has : bit (slice_index hands who) order ≡ 1

@@ -6,7 +6,8 @@ pub mod ClueMaskLemmas
 pub mod NextMember
 pub mod HandBits
 pub mod Narrow
-pub mod Steps
+pub mod PlayTable
+pub mod ClueTable
 pub mod EndLemmas
 pub mod Bounds
 pub mod Acts

@@ -48,7 +48,8 @@ filter-skip p from zero none = let e : from + 0 ≡ from = omega arith in rw e r
 filter-skip p from (suc d) none =
     let e : from + suc d ≡ from + d + 1 = omega arith in
     let here : p (from + d) ≡ false = none (from + d) (omega arith) (omega arith) in
-    let ih : filter p (range_with_len 0 (from + d)) ≡ filter p (range_with_len 0 from) = filter-skip p from d (λ j low below. none j low (omega arith)) in
+    let ih : filter p (range_with_len 0 (from + d)) ≡ filter p (range_with_len 0 from) =
+    filter-skip p from d (λ j low below. none j low (omega arith)) in
     rw (e, filter-range_more, here, append-nil) ih
 
 -- the same up to a number above
@@ -56,7 +57,8 @@ pub filter-range_skip : (p : ℕ → Bool) (from to : ℕ) → from ≤ to → (
     → filter p (range_with_len 0 to) ≡ filter p (range_with_len 0 from)
 filter-range_skip p from to le none =
     let e : from + (to - from) ≡ to = omega arith in
-    let h : filter p (range_with_len 0 (from + (to - from))) ≡ filter p (range_with_len 0 from) = filter-skip p from (to - from) (λ j low below. none j low (omega arith)) in
+    let h : filter p (range_with_len 0 (from + (to - from))) ≡ filter p (range_with_len 0 from) =
+    filter-skip p from (to - from) (λ j low below. none j low (omega arith)) in
     rw e at h
 
 -- a test that a word answers, where it has no bit

@@ -30,7 +30,8 @@ dealt-low n h k s here =
     let is : k / h ≡ s = grind arith in
     let d : k / h < n = dealt-seat n h k low in omega arith
 
-joined-low : (n who k s : ℕ) (b : Bool) (o : Option ℕ) → who < n → (is_at o s ≡ true → s < n) → is_at (if b then Some who else o) s ≡ true → s < n
+joined-low : (n who k s : ℕ) (b : Bool) (o : Option ℕ) → who < n → (is_at o s ≡ true → s < n)
+    → is_at (if b then Some who else o) s ≡ true → s < n
 joined-low n who k s true o low before here = let e : who ≡ s = grind arith in omega arith
 joined-low n who k s false o low before here = before here
 
@@ -41,14 +42,20 @@ receiver-lt g (act ∷ past) two legal k s here = step act.action legal.0 (recei
   where
     step : (a : Action) → rule g past (record { who = act.who; action = a }) ≡ None → (is_at (receiver g past k) s ≡ true → s < g.players)
         → is_at (receiver g (record { who = act.who; action = a } ∷ past) k) s ≡ true → s < g.players
-    step (action.Play order) may ih now = joined-low g.players act.who k s _ (receiver g past k) (current-lt g past act.who two (may_play g past act.who order may).turn) ih now
-    step (action.Discard order) may ih now = joined-low g.players act.who k s _ (receiver g past k) (current-lt g past act.who two (may_discard g past act.who order may).turn) ih now
+    step (action.Play order) may ih now =
+        joined-low g.players act.who k s _ (receiver g past k)
+        (current-lt g past act.who two (may_play g past act.who order may).turn) ih now
+    step (action.Discard order) may ih now =
+        joined-low g.players act.who k s _ (receiver g past k)
+        (current-lt g past act.who two (may_discard g past act.who order may).turn) ih now
     step (action.Clue to clue) may ih now = ih now
     step (action.End how) may ih now = ih now
 
 -- who holds an order is a seat
 pub holder-lt : (g : Setup) (past : List Act) → 2 ≤ g.players → Legal g past → (k s : ℕ) → is_at (holder g past k) s ≡ true → s < g.players
-holder-lt g past two legal k s here = let r : is_at (receiver g past k) s ≡ true → s < g.players = receiver-lt g past two legal k s in grind (arith, r)
+holder-lt g past two legal k s here =
+    let r : is_at (receiver g past k) s ≡ true → s < g.players = receiver-lt g past two legal k s in
+    grind (arith, r)
 
 -- nobody past the last seat holds an order
 pub holder-none : (g : Setup) (past : List Act) → IsFair g → Legal g past → (k s : ℕ) → 6 ≤ s → is_at (holder g past k) s ≡ false
@@ -56,7 +63,8 @@ holder-none g past fair legal k s far = let r : is_at (holder g past k) s ≡ tr
     let six : g.players ≤ 6 = fair.six in grind (arith, r)
 
 -- and so the empty set is what such a seat holds
-pub bit-holder_none : (g : Setup) (past : List Act) → IsFair g → Legal g past → (s : ℕ) → 6 ≤ s → (k : ℕ) → (bit 0 k == 1) ≡ is_at (holder g past k) s
+pub bit-holder_none : (g : Setup) (past : List Act) → IsFair g → Legal g past → (s : ℕ) → 6 ≤ s → (k : ℕ)
+    → (bit 0 k == 1) ≡ is_at (holder g past k) s
 bit-holder_none g past fair legal s far k =
     let none : is_at (holder g past k) s ≡ false = holder-none g past fair legal k s far in
     let zeros : bit 0 k ≡ 0 = bit-zero k in rw (none, zeros) (grind arith)

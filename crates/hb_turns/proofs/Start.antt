@@ -17,24 +17,24 @@ use Rattle.hb_rules.specs.Hands.{is_at}
 use Rattle.hb_turns.specs.Dealt.{dealt_to}
 use Rattle.hb_turns.specs.GameInvariant.{IsFair, IsGame}
 
-nobody : (n k : ℕ) → slice_index_or {A = Option ℕ} (replicate n None) k None ≡ None
-nobody zero k = refl
-nobody (suc n) zero = refl
-nobody (suc n) (suc k) = nobody n k
+get_or-replicate_none : (n k : ℕ) → slice_index_or {A = Option ℕ} (replicate n None) k None ≡ None
+get_or-replicate_none zero k = refl
+get_or-replicate_none (suc n) zero = refl
+get_or-replicate_none (suc n) (suc k) = get_or-replicate_none n k
 
 -- nothing is dealt at first
 pub none-dealt : (n k x : ℕ) → slice_index_or {A = Option ℕ} (replicate n None) k None ≡ (if nat_lt k 0 then Some x else None)
-none-dealt n k x = let e : slice_index_or {A = Option ℕ} (replicate n None) k None ≡ None = nobody n k in grind (arith, e)
+none-dealt n k x = let e : slice_index_or {A = Option ℕ} (replicate n None) k None ≡ None = get_or-replicate_none n k in grind (arith, e)
 
 -- each place of a list of zeros
-pub zeros : (n k : ℕ) → slice_index (replicate n 0) k ≡ 0
-zeros zero k = refl
-zeros (suc n) zero = refl
-zeros (suc n) (suc k) = zeros n k
+pub slice_index-replicate : (n k : ℕ) → slice_index (replicate n 0) k ≡ 0
+slice_index-replicate zero k = refl
+slice_index-replicate (suc n) zero = refl
+slice_index-replicate (suc n) (suc k) = slice_index-replicate n k
 
 -- at first no seat holds anything
 pub none-held : (g : Setup) (s k : ℕ) → (bit (slice_index (replicate 6 0) s) k == 1) ≡ is_at (dealt_to g 0 k) s
-none-held g s k = let e : bit 0 k ≡ 0 = bit-zero k in rw zeros (grind arith)
+none-held g s k = let e : bit 0 k ≡ 0 = bit-zero k in rw slice_index-replicate (grind arith)
 
 -- each place of a list of one number
 pub same-all : (w n k : ℕ) → k < n → slice_index (replicate n w) k ≡ w
@@ -43,14 +43,19 @@ same-all w (suc n) zero low = refl
 same-all w (suc n) (suc k) low = same-all w n k (omega arith)
 
 -- before any clue each card may be any identity of the variant
-pub all-marked : (w : ℕ) (has : ℕ → Bool) → ((n : ℕ) → (bit w n == 1) ≡ has n) → (k n : ℕ) → k < 60 → (bit (slice_index (replicate 60 w) k) n == 1) ≡ (has n && true)
-all-marked w has is k n low = let e : (bit (slice_index (replicate 60 w) k) n == 1) ≡ has n = ap (λ x. bit x n == 1) (same-all w 60 k low) ∙ is n in grind (arith, e)
+pub all-marked : (w : ℕ) (has : ℕ → Bool) → ((n : ℕ) → (bit w n == 1) ≡ has n) → (k n : ℕ) → k < 60
+    → (bit (slice_index (replicate 60 w) k) n == 1) ≡ (has n && true)
+all-marked w has is k n low =
+    let e : (bit (slice_index (replicate 60 w) k) n == 1) ≡ has n =
+    ap (λ x. bit x n == 1) (same-all w 60 k low) ∙ is n in
+    grind (arith, e)
 
 -- a deal of all cards empties the deck
 pub start-emptied : (count dealt : ℕ) → then_some {T = ℕ} (nat_le count dealt) 0 ≡ (if count - (dealt + 0) == 0 then Some 0 else None)
 start-emptied count dealt = grind arith
 
-in-range-parts : (id : Identity) → (nat_lt id.suit 6 && nat_le 1 id.rank && nat_lt id.rank 6) ≡ true → (id.suit < 6) × (1 ≤ id.rank) × (id.rank < 6)
+in-range-parts : (id : Identity) → (nat_lt id.suit 6 && nat_le 1 id.rank && nat_lt id.rank 6) ≡ true
+    → (id.suit < 6) × (1 ≤ id.rank) × (id.rank < 6)
 in-range-parts id ok = (grind arith, grind arith, grind arith)
 
 -- what a game may start with is fair
@@ -73,5 +78,6 @@ fair-start g can =
     }
 
 -- a copy keeps what the game keeps
-pub same-kept : (g h : Setup) (items copy : List Act) (t : Table) (masks : ClueMasks) (end : Option EndHow) → h ≡ g → copy ≡ items → IsGame g (reverse items) t masks end → IsGame h (reverse copy) t masks end
+pub same-kept : (g h : Setup) (items copy : List Act) (t : Table) (masks : ClueMasks) (end : Option EndHow)
+    → h ≡ g → copy ≡ items → IsGame g (reverse items) t masks end → IsGame h (reverse copy) t masks end
 same-kept g h items copy t masks end e f kept = rw (e, f) kept

@@ -2,6 +2,7 @@
 use Rattle.std.specs.Prelude.{◌==◌, ◌≡◌, ℕ, ◌+◌, ◌*◌, ◌<◌, ◌≤◌, List, Option, None, length, slice_index, slice_index_or}
 use Rattle.hb_rules.specs.declared.acts.Act.{Act}
 use Rattle.hb_rules.specs.declared.acts.EndHow.{EndHow}
+use Rattle.hb_rules.specs.declared.limits.TheConstants.{FEWEST_PLAYERS, HIGHEST_RANK, IDENTITIES, MOST_CARDS, MOST_PLAYERS, MOST_SUITS}
 use Rattle.hb_rules.specs.declared.setups.Setup.{Setup}
 use Rattle.hb_rules.specs.Cards.{IsDeck}
 use Rattle.hb_rules.specs.Setup.{Position, card, deal_size}
@@ -20,13 +21,14 @@ use Rattle.hb_turns.specs.ClueMasks.{AreClueMasks}
 pub record IsFair (g : Setup) : Type 0 where
   pub can : CanStart g.variant g.options g.players g.deck.items
   pub full : IsDeck g.variant g.deck.items
-  pub two : 2 ≤ g.players
-  pub six : g.players ≤ 6
-  pub long : length g.deck.items ≤ 60
+  pub two : FEWEST_PLAYERS ≤ g.players
+  pub six : g.players ≤ MOST_PLAYERS
+  pub long : length g.deck.items ≤ MOST_CARDS
   pub dealt : deal_size g ≤ length g.deck.items
   pub seat : g.options.starting < g.players
-  pub suits : (k : ℕ) → k < length g.deck.items → (card g k).suit < 6
-  pub ranks : (k : ℕ) → k < length g.deck.items → (1 ≤ (card g k).rank) × ((card g k).rank < 6)
+  pub suits : (k : ℕ) → k < length g.deck.items → (card g k).suit < MOST_SUITS
+  pub ranks : (k : ℕ) → k < length g.deck.items
+      → (1 ≤ (card g k).rank) × ((card g k).rank < HIGHEST_RANK + 1)
 
 -- what holds of every game, so that each caller of a reader knows it: a game may start with the
 -- setup, and the acts are legal
@@ -36,21 +38,24 @@ pub record IsPlayed (p : Position) : Type 0 where
 
 -- the table of a history: each field is what the acts say
 pub record IsTable (g : Setup) (past : List Act) (t : Table) : Type 0 where
-  pub many_holders : length t.holders ≡ 60
-  pub many_hands : length t.hands ≡ 6
-  pub many_stacks : length t.stacks ≡ 6
-  pub many_lost : length t.lost ≡ 30
-  pub many_gone : length t.gone ≡ 30
-  pub many_marks : length t.marks ≡ 60
-  pub holders : (k : ℕ) → k < 60 → slice_index_or t.holders k None ≡ holder g past k
-  pub hands : (s k : ℕ) → s < 6
+  pub many_holders : length t.holders ≡ MOST_CARDS
+  pub many_hands : length t.hands ≡ MOST_PLAYERS
+  pub many_stacks : length t.stacks ≡ MOST_SUITS
+  pub many_lost : length t.lost ≡ IDENTITIES
+  pub many_gone : length t.gone ≡ IDENTITIES
+  pub many_marks : length t.marks ≡ MOST_CARDS
+  pub holders : (k : ℕ) → k < MOST_CARDS → slice_index_or t.holders k None ≡ holder g past k
+  pub hands : (s k : ℕ) → s < MOST_PLAYERS
       → (bit (slice_index t.hands s) k == 1) ≡ is_at (holder g past k) s
-  pub stacks : (s : ℕ) → s < 6 → slice_index t.stacks s ≡ height g past s
-  pub lost : (s r : ℕ) → s < 6 → r < 5
-      → slice_index t.lost (s * 5 + r) ≡ lost_copies g past (record { suit = s; rank = r + 1 })
-  pub gone : (s r : ℕ) → s < 6 → r < 5
-      → slice_index t.gone (s * 5 + r) ≡ gone_copies g past (record { suit = s; rank = r + 1 })
-  pub marks : (k n : ℕ) → k < 60 → (bit (slice_index t.marks k) n == 1) ≡ is_marked g past k n
+  pub stacks : (s : ℕ) → s < MOST_SUITS → slice_index t.stacks s ≡ height g past s
+  pub lost : (s r : ℕ) → s < MOST_SUITS → r < HIGHEST_RANK
+      → slice_index t.lost (s * HIGHEST_RANK + r)
+      ≡ lost_copies g past (record { suit = s; rank = r + 1 })
+  pub gone : (s r : ℕ) → s < MOST_SUITS → r < HIGHEST_RANK
+      → slice_index t.gone (s * HIGHEST_RANK + r)
+      ≡ gone_copies g past (record { suit = s; rank = r + 1 })
+  pub marks : (k n : ℕ) → k < MOST_CARDS
+      → (bit (slice_index t.marks k) n == 1) ≡ is_marked g past k n
   pub removed : t.removed ≡ length (removed past)
   pub turns : t.turns ≡ turns past
   pub tokens : t.tokens ≡ tokens g past

@@ -7,6 +7,7 @@ use Rattle.std.specs.List.{list_any, list_all, range_with_len}
 use Rattle.hb_rules.specs.declared.acts.EndHow.{EndHow}
 use Rattle.hb_rules.specs.declared.acts.EndHow.TheVariants.{Normal, Strikeout}
 use Rattle.hb_rules.specs.declared.suits.Identity.{Identity}
+use Rattle.hb_rules.specs.declared.limits.TheConstants.{FULL_TOKENS, HIGHEST_RANK, MOST_CARDS, STRIKES_TO_LOSE}
 use Rattle.hb_rules.specs.declared.setups.Setup.{Setup}
 use Rattle.hb_rules.specs.Cards.{number, copies, in_range, suit_count}
 use Rattle.hb_rules.specs.Setup.{card, deal_size}
@@ -15,19 +16,23 @@ use Rattle.hb_rules.specs.Marks.{same}
 use Rattle.hb_sets.specs.Sets.{bit}
 use Rattle.hb_turns.specs.declared.table.Table.{Table}
 
+-- the counts of a table are below this, which is far from the end of their type
+abbrev pub count_limit : ℕ
+count_limit = 200
+
 -- no count is near the end of its type
 pub record HasRoom (t : Table) : Type 0 where
-  pub removed : t.removed < 200
-  pub turns : t.turns < 200
-  pub tokens : t.tokens < 200
-  pub strikes : t.strikes < 200
-  pub stacks : (s : ℕ) → slice_index t.stacks s < 200
-  pub lost : (n : ℕ) → slice_index t.lost n < 200
-  pub gone : (n : ℕ) → slice_index t.gone n < 200
+  pub removed : t.removed < count_limit
+  pub turns : t.turns < count_limit
+  pub tokens : t.tokens < count_limit
+  pub strikes : t.strikes < count_limit
+  pub stacks : (s : ℕ) → slice_index t.stacks s < count_limit
+  pub lost : (n : ℕ) → slice_index t.lost n < count_limit
+  pub gone : (n : ℕ) → slice_index t.gone n < count_limit
 
 -- the order is one of the deck's, and its card an identity of some variant
 pub record IsCard (g : Setup) (order : ℕ) : Type 0 where
-  pub long : length g.deck.items ≤ 60
+  pub long : length g.deck.items ≤ MOST_CARDS
   pub below : order < length g.deck.items
   pub id : in_range (card g order) ≡ true
 
@@ -61,7 +66,8 @@ is_next t id = id.rank == slice_index t.stacks id.suit + 1
 abbrev pub stacked : Table → Identity → Table
 stacked t id = record t {
   stacks = slice_set t.stacks id.suit (slice_index t.stacks id.suit + 1);
-  tokens = if id.rank == 5 && nat_lt t.tokens 8 then t.tokens + 1 else t.tokens;
+  tokens = if id.rank == HIGHEST_RANK && nat_lt t.tokens FULL_TOKENS then t.tokens + 1
+      else t.tokens;
 }
 
 -- a card goes to the discards
@@ -104,11 +110,11 @@ clue_table t = record t { tokens = t.tokens - 1; turns = t.turns + 1 }
 abbrev pub is_stuck : Setup → Table → ℕ → Bool
 is_stuck g t suit = let height = slice_index t.stacks suit in
     let next : Identity = record { suit = suit; rank = height + 1 } in
-    nat_le 5 height || slice_index t.lost (number next) == copies g.variant next
+    nat_le HIGHEST_RANK height || slice_index t.lost (number next) == copies g.variant next
 
 -- the end that the game has come to
 abbrev pub table_end : Setup → Table → Option EndHow
-table_end g t = option_or t.called (if t.strikes == 3 then Some Strikeout
+table_end g t = option_or t.called (if t.strikes == STRIKES_TO_LOSE then Some Strikeout
     else (if is_last_round_over g t.emptied t.turns
     || list_all (is_stuck g t) (range_with_len 0 (suit_count g.variant)) then Some Normal
     else None))

@@ -4,12 +4,12 @@ ghost use Rattle.std.specs.Prelude.{◌≡◌, ℕ, ◌+◌, ◌<◌, true, leng
 ghost use Rattle.hb_rules.specs.Touch.{offers};
 ghost use Rattle.hb_turns.specs.ClueMasks.{AreClueMasks, IsMask};
 
-use hb_rules::{Clue, MOST_SUITS, Variant};
+use hb_rules::{Clue, HIGHEST_RANK, MOST_SUITS, Variant};
 use hb_suits::identities;
 use hb_touch::{mask, offers};
 
 /// The number of ranks.
-const RANKS: usize = 5;
+const RANKS: usize = HIGHEST_RANK as usize;
 
 /// The identities of a variant that each clue touches, as bits by number.
 #[derive(Clone, Copy)]

@@ -11,13 +11,14 @@ ghost use Rattle.hb_sets.specs.Sets.{bit};
 use crate::deals::{deal_size, dealt, dealt_hands};
 use crate::masks::ClueMasks;
 use hb_rules::{
-    EndHow, FULL_TOKENS, HIGHEST_RANK, IDENTITIES, Identity, MOST_CARDS, MOST_SUITS, Setup,
+    EndHow, FULL_TOKENS, HIGHEST_RANK, IDENTITIES, Identity, MOST_CARDS, MOST_PLAYERS, MOST_SUITS,
+    Setup,
 };
 use hb_suits::number;
 use marks::narrow;
 
 /// The seats of the largest game.
-pub const SEATS: usize = 6;
+pub const SEATS: usize = MOST_PLAYERS as usize;
 
 /// What a game keeps of its acts, so that no call goes through them again.
 #[derive(Clone, Copy)]
@@ -54,6 +55,7 @@ impl Table {
     ghost use Rattle.hb_turns.specs.GameInvariant.{IsTable};
     ghost use Rattle.hb_turns.specs.ClueMasks.{AreClueMasks};
     ghost use Rattle.hb_turns.specs.TableSteps.{
+      count_limit,
       HasRoom,
       IsCard,
       IsNarrowed,
@@ -124,9 +126,9 @@ impl Table {
     fn replace(&mut self, setup: &Setup, who: u8, order: u8)
         requires card { IsCard setup.now order }
         requires seat { who < SEATS }
-        requires removed { self.old.removed < 200 }
-        requires turns { self.old.turns < 200 }
-        requires gone { slice_index self.old.gone (number (card setup.now order)) < 200 }
+        requires removed { self.old.removed < count_limit }
+        requires turns { self.old.turns < count_limit }
+        requires gone { slice_index self.old.gone (number (card setup.now order)) < count_limit }
         ensures { self.new ≡ moved setup.now self.old who order }
     {
         let next = deal_size(setup) + usize::from(self.removed);

@@ -6,12 +6,15 @@ use Rattle.hb_turnstile.specs.declared.view.Entry.{Entry}
 use Rattle.hb_turnstile.specs.History.{entry, calls_by, Leads, IsLegal}
 use Rattle.hb_turnstile.specs.Known.{longer}
 
+-- a list begins itself
 pub prefix_self : {A : Type 0} (xs : List A) → IsPrefix xs xs
 prefix_self xs = ([], append-nil xs)
 
+-- the empty list begins each
 pub prefix_none : {A : Type 0} (xs : List A) → IsPrefix [] xs
 prefix_none xs = (xs, refl)
 
+-- what begins a list begins a longer one
 pub prefix_more : {A : Type 0} (xs ys zs : List A) → IsPrefix xs ys → IsPrefix xs (ys ++ zs)
 prefix_more xs ys zs p = (p.0 ++ zs, sym (append_assoc xs p.0 zs) ∙ ap (λ w. w ++ zs) p.1)
 
@@ -26,7 +29,8 @@ prefix_shorter (x ∷ xs) (y ∷ ys) (z ∷ zs) p q le =
     (rest.0, cc (heads, rest.1))
 
 -- what holds of the longer of two lists
-pub longer_is : {A : Type 0} (P : List A → Type 0) (xs ys : List A) → (length xs < length ys → P ys) → (length ys ≤ length xs → P xs) → P (longer xs ys)
+pub longer_is : {A : Type 0} (P : List A → Type 0) (xs ys : List A) → (length xs < length ys → P ys)
+    → (length ys ≤ length xs → P xs) → P (longer xs ys)
 longer_is P xs ys more less = by_test (ltb (length xs) (length ys)) refl
   where
     by_test : (b : Bool) → ltb (length xs) (length ys) ≡ b → P (cond b ys xs)
@@ -38,9 +42,11 @@ no_items [] e = refl
 no_items (x ∷ xs) e = absurd (omega arith)
 
 module _ {C R : Type 0} where
+  -- a pass's calls in two lists, one behind the other
   pub calls_by-append : (n : ℕ) (xs ys : List (Entry C R)) → calls_by n (xs ++ ys) ≡ calls_by n xs ++ calls_by n ys
   calls_by-append n xs ys = filter-append (λ e. eqb e.pass n) xs ys
 
+  -- a pass's call is its own
   pub calls_by-own : (n : ℕ) (c : C) (r : R) → calls_by n (entry n c r ∷ []) ≡ entry n c r ∷ []
   calls_by-own n c r = ap (λ b. cond b (entry n c r ∷ []) []) (eq-eqb n n refl)
 
@@ -63,7 +69,8 @@ module _ {C R : Type 0} where
       no_items (calls_by n xs) (omega (arith, length-append (calls_by n xs) (calls_by n p.0)))
 
   -- where the whole has no more calls of a pass than a beginning, a list between the two has the same
-  pub own_between : (n : ℕ) (xs ys zs : List (Entry C R)) → IsPrefix xs ys → IsPrefix ys zs → calls_by n zs ≡ calls_by n xs → calls_by n ys ≡ calls_by n xs
+  pub own_between : (n : ℕ) (xs ys zs : List (Entry C R)) → IsPrefix xs ys → IsPrefix ys zs
+      → calls_by n zs ≡ calls_by n xs → calls_by n ys ≡ calls_by n xs
   own_between n xs ys zs p q e =
       let whole : xs ++ (p.0 ++ q.0) ≡ zs = sym (append_assoc xs p.0 q.0) ∙ (ap (λ l. l ++ q.0) p.1 ∙ q.1) in
       let behind : calls_by n (p.0 ++ q.0) ≡ [] = none_behind n xs (p.0 ++ q.0) (ap (calls_by n) whole ∙ e) in
@@ -72,7 +79,8 @@ module _ {C R : Type 0} where
 
 module _ {M C R : Type 0} (turns : M → C → R → M → Type 0) where
   -- one more turn
-  pub leads-push : (m n k : M) (xs : List (Entry C R)) (p : ℕ) (c : C) (r : R) → Leads turns m xs n → turns n c r k → Leads turns m (xs ++ entry p c r ∷ []) k
+  pub leads-push : (m n k : M) (xs : List (Entry C R)) (p : ℕ) (c : C) (r : R) → Leads turns m xs n
+      → turns n c r k → Leads turns m (xs ++ entry p c r ∷ []) k
   leads-push m n k [] p c r same t = (k, subst (λ (x : M). turns x c r k) (sym same) t, refl)
   leads-push m n k (e ∷ xs) p c r l t = (l.0, l.1, leads-push l.0 n k xs p c r l.2 t)
 

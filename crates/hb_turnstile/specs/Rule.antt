@@ -1,3 +1,4 @@
+-- Internal: no public clause cites this.
 -- What holds of a turnstile's table between any two atomic steps, and what each step tells the pass
 -- that takes it. Word 0 is the ticket that is given next, word 1 the ticket that is served. The one
 -- slot has the machine, and is out with the pass that has found its turn, if there is one. The

@@ -61,11 +61,15 @@ impl<M: Machine> Model for Pass<M> {
     ghost use Rattle.std.specs.Prelude.{◌≡◌, []};
     ghost use Rattle.hb_turnstile.specs.declared.view.Stage.TheVariants.{Idle};
     ghost use Rattle.hb_turnstile.specs.Known.{Known};
-    ghost use Rattle.hb_turnstile.specs.Rule.{known_of};
 
     ghost Value = { Known M.Call M.Reply };
 
-    ghost view = { λ p. known_of p.seat.table_id p.seat.me.0 };
+    ghost view = { λ p. record {
+      table = p.seat.table_id;
+      number = p.seat.me.0.number;
+      seen = p.seat.me.0.seen;
+      worn = p.seat.me.0.worn;
+    } };
 
     ghost invariant = { λ p. (p.seat.me.0.stage ≡ Idle) × (p.seat.me.1 ≡ []) };
 }

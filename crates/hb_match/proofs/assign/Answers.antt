@@ -4,7 +4,7 @@ use Rattle.hb_match.specs.Matching.{uses, IsObstruction}
 use Rattle.hb_match.specs.Placing.{Gathers, Places}
 use Rattle.hb_match.proofs.Uses.{uses-nil}
 use Rattle.hb_match.proofs.CopiesLeft.{enough_more}
-use Rattle.hb_match.proofs.Hall.{blocked, excluded}
+use Rattle.hb_match.proofs.Hall.{gathers-blocked, obstruction-excludes}
 use Rattle.hb_match.proofs.assign.Goals as goal
 
 pub loop-init : goal.loop-init
@@ -17,7 +17,8 @@ loop-init c = record {
 pub loop-preserved : goal.loop-preserved
 loop-preserved c =
     let over : ℕ = c.in_default.field-0 in
-    let placed : Places c.args.masks.now c.loop.chosen.items c.place.new.chosen.items c.spare_ids-spare.result over = c.in_default.ensures in
+    let placed : Places c.args.masks.now c.loop.chosen.items c.place.new.chosen.items c.spare_ids-spare.result
+    over = c.in_default.ensures in
     let spare : uses c.loop.chosen.items over < slice_index c.args.left.now over =
     let P : List ℕ → Type 0 = λ xs. uses xs over < slice_index c.args.left.now over in
     subst P c.as_slice.ensures.value ((c.spare_ids-spare.ensures over).0 placed.inside) in
@@ -41,5 +42,6 @@ returns-in-Err c =
     let P : List ℕ → Type 0 = λ xs. (id : ℕ) → uses xs id < slice_index left id → Has c.spare_ids-spare.result id in
     subst P c.as_slice.ensures.value (λ id. (c.spare_ids-spare.ensures id).1) in
     let obstruction : IsObstruction masks left cards ids =
-    blocked masks left chosen c.spare_ids-spare.result c.in-Err.closed cards ids (omega (arith, c.loop.invariant.so_far)) spare c.in-Err.ensures.1 gathers in
-    (obstruction, excluded masks left cards ids obstruction)
+    gathers-blocked masks left chosen c.spare_ids-spare.result c.in-Err.closed cards ids
+    (omega (arith, c.loop.invariant.so_far)) spare c.in-Err.ensures.1 gathers in
+    (obstruction, obstruction-excludes masks left cards ids obstruction)

@@ -11,7 +11,8 @@ loop-card-preserved c = record {
 
 pub returns-clause-same : goal.returns-clause-same
 returns-clause-same c = λ card h set.
-    possible_same c.args.masks.now c.args.left.now card (slice_index c.loop-card.sets.items card) set (c.loop-card.invariant.exact card (omega arith))
+    possible_same c.args.masks.now c.args.left.now card (slice_index c.loop-card.sets.items card) set
+    (c.loop-card.invariant.exact card (omega arith))
 
 pub returns-clause-none : goal.returns-clause-none
 returns-clause-none c = all_none c.args.masks.now c.args.left.now c.loop-card.sets.items (omega (arith, c.loop-card.invariant.so_far))

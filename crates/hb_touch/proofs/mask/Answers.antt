@@ -9,6 +9,8 @@ loop-number-init c = λ n. grind (arith, bit-zero n)
 
 pub loop-number-preserved : goal.loop-number-preserved
 loop-number-preserved c = elim c.if-is_in_mask.branch [
-  | then-is_in_mask w ↦ rw w.set-is (Holds-with _ _ _ _ c.loop-number.invariant (sym c.is_in_mask.ensures ∙ w.if-is_in_mask.true) w.with-set.ensures.put w.with-set.ensures.rest)
+  | then-is_in_mask w ↦ rw w.set-is
+      (Holds-with _ _ _ _ c.loop-number.invariant (sym c.is_in_mask.ensures ∙ w.if-is_in_mask.true)
+      w.with-set.ensures.put w.with-set.ensures.rest)
   | else-is_in_mask w ↦ rw w.set-is (Holds-without _ _ _ c.loop-number.invariant (sym c.is_in_mask.ensures ∙ w.if-is_in_mask.false))
 ]

@@ -15,7 +15,8 @@ returns t c =
     let to : ℕ = c.in-Some-mover.to in
     let held_is = ap (λ xs. slice_index xs card) c.deref.ensures.0 in
     let can : CanMove c.args.masks.now old c.args.free card to =
-    let P : List ℕ → Type 0 = λ xs. CanMove c.args.masks.now xs c.args.free card to in subst P c.as_slice.ensures.value c.in-Some-mover.ensures in
+    let P : List ℕ → Type 0 = λ xs. CanMove c.args.masks.now xs c.args.free card to in
+    subst P c.as_slice.ensures.value c.in-Some-mover.ensures in
     let placed : Places c.args.masks.now old mid c.with.result (slice_index c.deref.result.now card) =
     let P : ℕ → Type 0 = λ x. Places c.args.masks.now old mid c.with.result x in subst P c.if-over-held.false c.in_ok-over.ensures in
     rw (refill-set mid c.deref_mut.result.now card to c.deref_mut.ensures.value)

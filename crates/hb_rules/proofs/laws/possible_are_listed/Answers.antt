@@ -1,4 +1,5 @@
-use Rattle.hb_rules.proofs.Possible.{deal-is, deal-tests, possible-listed, possible-rises}
+use Rattle.hb_rules.proofs.IsDeal.{deal-is, deal-tests}
+use Rattle.hb_rules.proofs.Possible.{possible-listed, possible-rises}
 use Rattle.hb_rules.proofs.laws.possible_are_listed.Goals as goal
 
 pub returns-clause-deals : goal.returns-clause-deals

@@ -5,17 +5,23 @@ use Rattle.hb_suits.proofs.names.variant.Goals as goal
 
 pub returns-in-Some-clause-named : goal.returns-in-Some-clause-named
 returns-in-Some-clause-named c =
-    let form = variant_of-spelled c.args.name.now c.in-Some.text.now (strip_prefix_char 61 c.args.name.now (Some c.in-Some.text) c.in-Some.ensures.cases (lit< tt)) in
+    let form =
+    variant_of-spelled c.args.name.now c.in-Some.text.now
+    (strip_prefix_char 61 c.args.name.now (Some c.in-Some.text) c.in-Some.ensures.cases (lit< tt)) in
     rw c.ok_or.ensures.value (named-by _ _ _ (form.1 ∙ sym c.spelled.ensures))
 
 pub returns-in-Some-clause-refused : goal.returns-in-Some-clause-refused
 returns-in-Some-clause-refused c =
-    let form = variant_of-spelled c.args.name.now c.in-Some.text.now (strip_prefix_char 61 c.args.name.now (Some c.in-Some.text) c.in-Some.ensures.cases (lit< tt)) in
+    let form =
+    variant_of-spelled c.args.name.now c.in-Some.text.now
+    (strip_prefix_char 61 c.args.name.now (Some c.in-Some.text) c.in-Some.ensures.cases (lit< tt)) in
     rw c.ok_or.ensures.value (refused-by _ _ _ (form.1 ∙ sym c.spelled.ensures))
 
 pub returns-in-Some-clause-misspelled : goal.returns-in-Some-clause-misspelled
 returns-in-Some-clause-misspelled c =
-    let form = variant_of-spelled c.args.name.now c.in-Some.text.now (strip_prefix_char 61 c.args.name.now (Some c.in-Some.text) c.in-Some.ensures.cases (lit< tt)) in
+    let form =
+    variant_of-spelled c.args.name.now c.in-Some.text.now
+    (strip_prefix_char 61 c.args.name.now (Some c.in-Some.text) c.in-Some.ensures.cases (lit< tt)) in
     rw c.ok_or.ensures.value (error-by _ _ _ _ (form.1 ∙ sym c.spelled.ensures) form.0)
 
 pub returns-in-None-clause-named : goal.returns-in-None-clause-named
@@ -40,11 +46,15 @@ returns-in-None-clause-misspelled c =
 
 pub returns-in-Some-clause-spells : goal.returns-in-Some-clause-spells
 returns-in-Some-clause-spells c = rw c.ok_or.ensures.value
-    (spells-by c.args.name.now c.in-Some.text.now _ (strip_prefix_char 61 c.args.name.now (Some c.in-Some.text) c.in-Some.ensures.cases (lit< tt)) (sym c.spelled.ensures))
+    (spells-by c.args.name.now c.in-Some.text.now _
+    (strip_prefix_char 61 c.args.name.now (Some c.in-Some.text) c.in-Some.ensures.cases (lit< tt))
+    (sym c.spelled.ensures))
 
 pub returns-in-Some-clause-spelled : goal.returns-in-Some-clause-spelled
 returns-in-Some-clause-spelled c = rw c.ok_or.ensures.value
-    (spelled-by c.args.name.now c.in-Some.text.now _ (strip_prefix_char 61 c.args.name.now (Some c.in-Some.text) c.in-Some.ensures.cases (lit< tt)) (sym c.spelled.ensures))
+    (spelled-by c.args.name.now c.in-Some.text.now _
+    (strip_prefix_char 61 c.args.name.now (Some c.in-Some.text) c.in-Some.ensures.cases (lit< tt))
+    (sym c.spelled.ensures))
 
 pub returns-in-None-clause-spells : goal.returns-in-None-clause-spells
 returns-in-None-clause-spells c = λ suits e. absurd (strip_prefix_char 61 c.args.name.now None c.in-None.ensures.cases (lit< tt) _ e)

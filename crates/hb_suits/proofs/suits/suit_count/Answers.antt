@@ -1,6 +1,6 @@
 use Rattle.std.proofs.Common.{◌≡◌, arith, rules}
 use Rattle.hb_rules.specs.Cards.{suit_count}
-use Rattle.hb_suits.proofs.Places.{suit_count-many}
+use Rattle.hb_rules.proofs.SuitCount.{suit_count-many}
 use Rattle.hb_suits.proofs.suits.suit_count.Goals as goal
 
 pub returns-clause-many : goal.returns-clause-many

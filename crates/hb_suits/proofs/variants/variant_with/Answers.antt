@@ -6,7 +6,9 @@ use Rattle.hb_suits.proofs.Places.{option_copied-get, placed-filled, is_variant-
 use Rattle.hb_suits.proofs.variants.variant_with.Goals as goal
 
 pub returns-then-not-is_variant : goal.returns-then-not-is_variant
-returns-then-not-is_variant c = sym (variant_with-none c.args.suits.now c.args.special (sym c.is_variant.ensures ∙ c.if-not-is_variant.true))
+returns-then-not-is_variant c =
+    sym
+    (variant_with-none c.args.suits.now c.args.special (sym c.is_variant.ensures ∙ c.if-not-is_variant.true))
 
 pub loop-index-preserved : goal.loop-index-preserved
 loop-index-preserved c = record {
@@ -21,12 +23,16 @@ pub invariant_of-result : goal.invariant_of-result
 invariant_of-result c =
     let is = sym c.is_variant.ensures ∙ c.if-not-is_variant.false in
     let few : length c.args.suits.now ≤ 6 = is_variant-few c.args.suits.now c.args.special is in
-    let same : c.loop-index.place-items ≡ placed c.args.suits.now = placed-filled c.args.suits.now c.loop-index.place-items few c.loop-index.invariant.long (λ k low. c.loop-index.invariant.filled k (omega arith)) in
+    let same : c.loop-index.place-items ≡ placed c.args.suits.now =
+    placed-filled c.args.suits.now c.loop-index.place-items few c.loop-index.invariant.long
+    (λ k low. c.loop-index.invariant.filled k (omega arith)) in
     record { valid = rw same is }
 
 pub returns : goal.returns
 returns c =
     let is = sym c.is_variant.ensures ∙ c.if-not-is_variant.false in
     let few : length c.args.suits.now ≤ 6 = is_variant-few c.args.suits.now c.args.special is in
-    let same : c.loop-index.place-items ≡ placed c.args.suits.now = placed-filled c.args.suits.now c.loop-index.place-items few c.loop-index.invariant.long (λ k low. c.loop-index.invariant.filled k (omega arith)) in
+    let same : c.loop-index.place-items ≡ placed c.args.suits.now =
+    placed-filled c.args.suits.now c.loop-index.place-items few c.loop-index.invariant.long
+    (λ k low. c.loop-index.invariant.filled k (omega arith)) in
     sym (variant_with-some c.args.suits.now _ same)

@@ -9,5 +9,9 @@ use Rattle.hb_turns.proofs.masks.color_masks.Goals as goal
 pub loop-color-preserved : goal.loop-color-preserved
 loop-color-preserved c = record {
   many = rw length-set c.loop-color.invariant.many;
-  all = rw c.from.ensures (set-below (λ k set. offers c.args.variant.now (clue.Color k) ≡ true → IsMask c.args.variant.now (clue.Color k) set) c.loop-color.masks c.loop-color.color _ (omega arith) c.loop-color.invariant.all c.mask_of.ensures);
+  all = rw c.from.ensures
+      (set-below
+      (λ k set. offers c.args.variant.now (clue.Color k) ≡ true
+      → IsMask c.args.variant.now (clue.Color k) set)
+      c.loop-color.masks c.loop-color.color _ (omega arith) c.loop-color.invariant.all c.mask_of.ensures);
 }

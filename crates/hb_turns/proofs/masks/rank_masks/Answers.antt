@@ -9,5 +9,9 @@ use Rattle.hb_turns.proofs.masks.rank_masks.Goals as goal
 pub loop-place-preserved : goal.loop-place-preserved
 loop-place-preserved c = record {
   many = rw length-set c.loop-place.invariant.many;
-  all = rw c.from.ensures (set-below (λ k set. offers c.args.variant.now (clue.Rank (k + 1)) ≡ true → IsMask c.args.variant.now (clue.Rank (k + 1)) set) c.loop-place.masks c.loop-place.place _ (omega arith) c.loop-place.invariant.all c.mask_of.ensures);
+  all = rw c.from.ensures
+      (set-below
+      (λ k set. offers c.args.variant.now (clue.Rank (k + 1)) ≡ true
+      → IsMask c.args.variant.now (clue.Rank (k + 1)) set)
+      c.loop-place.masks c.loop-place.place _ (omega arith) c.loop-place.invariant.all c.mask_of.ensures);
 }

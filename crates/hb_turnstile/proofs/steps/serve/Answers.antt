@@ -18,6 +18,10 @@ hand_on-requires-clause-turned g c =
       c.turn-reply.new.self,
       ap (λ v. v.stage) same ∙ c.requires.inside.2,
       back,
-      subst (λ v. Leads g.M.Machine.turns start (v.seen ++ entry v.number c.args.call.now c.turn-reply.result ∷ []) c.turn-reply.new.self) (sym same)
+      subst
+          (λ v.
+          Leads g.M.Machine.turns start (v.seen ++ entry v.number c.args.call.now c.turn-reply.result ∷ [])
+          c.turn-reply.new.self)
+          (sym same)
           (leads-push _ _ _ _ _ _ _ _ before c.turn-reply.ensures),
     )

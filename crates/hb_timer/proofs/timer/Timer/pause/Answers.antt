@@ -6,8 +6,11 @@ use Rattle.hb_timer.proofs.timer.Timer.pause.Goals as goal
 
 pub pass_to-requires-clause-in_time : goal.pass_to-requires-clause-in_time
 pass_to-requires-clause-in_time c =
-    time_fits c.self.inside.timing c.self.inside.calls c.self.inside.clock c.args.moment c.self.invariant (rw (← c.self.view_is) at c.requires.on_time)
+    time_fits c.self.inside.timing c.self.inside.calls c.self.inside.clock c.args.moment c.self.invariant
+    (rw (← c.self.view_is) at c.requires.on_time)
 
 pub invariant_of-self : goal.invariant_of-self
 invariant_of-self c =
-    rw c.add.ensures (kept-call c.self.inside.timing (Pauses c.args.moment) c.self.inside.calls c.self.inside.clock c.pass_to.new.self _ c.self.invariant c.pass_to.ensures c.requires.in_range refl refl)
+    rw c.add.ensures
+    (kept-call c.self.inside.timing (Pauses c.args.moment) c.self.inside.calls c.self.inside.clock
+    c.pass_to.new.self _ c.self.invariant c.pass_to.ensures c.requires.in_range refl refl)

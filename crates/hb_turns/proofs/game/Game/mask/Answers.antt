@@ -13,4 +13,5 @@ pub returns-in-Color : goal.returns-in-Color
 returns-in-Color c =
     let offered : offers c.args.self.now.setup.variant (clue.Color c.in-Color.color) ≡ true = rw c.in-Color.is at c.requires in
     let low : c.in-Color.color < 6 = color-lt c.args.self.now.setup.variant c.in-Color.color offered in
-    rw (c.in-Color.is, c.from.ensures, ← c.self.view_is) (c.self.invariant.masks.colors c.in-Color.color low (rw (← c.self.view_is) at offered))
+    rw (c.in-Color.is, c.from.ensures, ← c.self.view_is)
+    (c.self.invariant.masks.colors c.in-Color.color low (rw (← c.self.view_is) at offered))

@@ -5,4 +5,8 @@ use Rattle.hb_rules.specs.Result.{height}
 use Rattle.hb_turns.proofs.game.Game.stacked.Given as goal
 
 abbrev pub invariant-loop-suit : goal.invariant-loop-suit
-invariant-loop-suit l = record { sum : l.total ≡ sum_by (height l.self.setup l.self.past) (range_with_len 0 l.suit); low : l.total ≤ 5 * l.suit }
+invariant-loop-suit l =
+    record {
+      sum : l.total ≡ sum_by (height l.self.setup l.self.past) (range_with_len 0 l.suit);
+      low : l.total ≤ 5 * l.suit;
+    }

@@ -6,4 +6,8 @@ use Rattle.hb_rules.specs.Events.{bits}
 use Rattle.hb_turns.proofs.game.Game.touched.Given as goal
 
 abbrev pub invariant-loop-order : goal.invariant-loop-order
-invariant-loop-order l = l.word ≡ bits (filter (λ order. touches l.self.setup.variant l.fn.clue (card l.self.setup order)) (take l.order-index l.order-items))
+invariant-loop-order l =
+    l.word
+    ≡ bits
+    (filter (λ order. touches l.self.setup.variant l.fn.clue (card l.self.setup order))
+    (take l.order-index l.order-items))

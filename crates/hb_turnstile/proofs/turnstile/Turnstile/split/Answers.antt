@@ -1,6 +1,6 @@
 use Rattle.std.proofs.Common.{rules}
-use Rattle.hb_turnstile.proofs.Keeps.{splits}
+use Rattle.hb_turnstile.proofs.SplitsAndJoins.{split-allowed}
 use Rattle.hb_turnstile.proofs.turnstile.Turnstile.split.Goals as goal
 
 pub split_seat-seat-requires : goal.split_seat-seat-requires
-split_seat-seat-requires g c = (search rules, search rules, splits _ _ _ _ c.pass.invariant.0)
+split_seat-seat-requires g c = (search rules, search rules, split-allowed _ _ _ _ c.pass.invariant.0)
