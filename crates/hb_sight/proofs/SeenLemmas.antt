@@ -16,13 +16,12 @@ use Rattle.hb_rules.specs.declared.events.Event.{Event}
 use Rattle.hb_rules.specs.declared.setups.Setup.{Setup}
 use Rattle.hb_rules.specs.declared.suits.Identity.{Identity}
 use Rattle.hb_rules.specs.declared.variants.Variant.{Variant}
-use Rattle.hb_rules.specs.Cards.{IsDeck, cards, copies, count_of}
+use Rattle.hb_rules.specs.Cards.{cards, copies, count_of}
 use Rattle.hb_rules.specs.Observed.{Observed, observed}
 use Rattle.hb_rules.specs.Setup.{Position, card, deal_size, hand_size}
 use Rattle.hb_rules.specs.Hands.{is_gone, joins}
 use Rattle.hb_rules.specs.Result.{ended}
 use Rattle.hb_rules.specs.Events.{blank, blanked, caller, drawn_event, draws, ends, events, in_blind, observation, told}
-use Rattle.hb_rules.proofs.DeckSize.{deck-length}
 use Rattle.hb_sight.specs.Seen.{seen_card, seen_deck, seen_position, shown_at}
 use Rattle.hb_sight.proofs.Agreement.{SameGone, with_cards}
 use Rattle.hb_sight.proofs.NamedActs.{acts_of-observation}
@@ -178,16 +177,16 @@ copies-cards v id = refl
 pub length-seen_deck : (seen : Observed) → length (seen_deck seen) ≡ length (cards seen.variant)
 length-seen_deck seen = length-map-range_with_len (seen_card seen.events) 0 (length (cards seen.variant))
 
--- and so as long as the game's own
-pub seen_deck-long : (blind : ℕ) (p : Position) → IsDeck p.setup.variant p.setup.deck.items
+-- and so as long as the game's own, if that has as many cards as the variant
+pub seen_deck-long : (blind : ℕ) (p : Position) → length p.setup.deck.items ≡ length (cards p.setup.variant)
     → length (seen_deck (observed blind p)) ≡ length p.setup.deck.items
-seen_deck-long blind p full = length-seen_deck (observed blind p) ∙ sym (deck-length p.setup.variant p.setup.deck.items full)
+seen_deck-long blind p own = length-seen_deck (observed blind p) ∙ sym own
 
 -- the deck that is seen has each card that the observation shows
-pub seen_deck-shown : (blind : ℕ) (p : Position) (order : ℕ) → IsDeck p.setup.variant p.setup.deck.items
+pub seen_deck-shown : (blind : ℕ) (p : Position) (order : ℕ) → length p.setup.deck.items ≡ length (cards p.setup.variant)
     → shows order (observation blind p.setup p.past) ≡ true
     → card (with_cards p.setup (seen_deck (observed blind p))) order ≡ card p.setup order
-seen_deck-shown blind p order full there = pick (cases_lt order (length (cards p.setup.variant)))
+seen_deck-shown blind p order own there = pick (cases_lt order (length (cards p.setup.variant)))
   where
     pick : (order < length (cards p.setup.variant)) ⊎ (length (cards p.setup.variant) ≤ order)
         → card (with_cards p.setup (seen_deck (observed blind p))) order ≡ card p.setup order
@@ -196,14 +195,13 @@ seen_deck-shown blind p order full there = pick (cases_lt order (length (cards p
         ∙ shown-card p.setup order (observation blind p.setup p.past) (own-observation blind p.setup order p.past) there
     pick (inr far) =
         let long : length (seen_deck (observed blind p)) ≡ length (cards p.setup.variant) = length-seen_deck (observed blind p) in
-        let own : length p.setup.deck.items ≡ length (cards p.setup.variant) = deck-length p.setup.variant p.setup.deck.items full in
         get_or-eq_default (seen_deck (observed blind p)) (record { suit = 0; rank = 0 }) (omega (arith, long, far))
         ∙ sym (get_or-eq_default p.setup.deck.items (record { suit = 0; rank = 0 }) (omega (arith, own, far)))
 
 -- so it has each card that was played or discarded
-pub seen_deck-gone : (blind : ℕ) (p : Position) → IsDeck p.setup.variant p.setup.deck.items
+pub seen_deck-gone : (blind : ℕ) (p : Position) → length p.setup.deck.items ≡ length (cards p.setup.variant)
     → SameGone p.setup p.past (seen_deck (observed blind p))
-seen_deck-gone blind p full order gone = seen_deck-shown blind p order full (shows-gone blind p.setup order p.past gone)
+seen_deck-gone blind p own order gone = seen_deck-shown blind p order own (shows-gone blind p.setup order p.past gone)
 
 -- the game that is seen is the game's own with the deck that is seen
 pub seen_position-is : (blind : ℕ) (p : Position)

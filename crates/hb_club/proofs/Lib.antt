@@ -1,0 +1,17 @@
+pub mod DeckLemmas
+pub mod SeenGameLemmas
+pub mod SeenTableLemmas
+pub mod TableRefusalsLemmas
+pub mod TimeFirstLemmas
+pub mod TableInvariantLemmas
+pub mod WholeGamesLemmas
+pub mod RoomsLemmas
+pub mod LobbyLemmas
+pub mod SeatingLemmas
+pub mod TableRecordLemmas
+pub mod PendingLemmas
+pub mod OwnEntriesLemmas
+pub mod PlainItemsLemmas
+pub mod TableLoadsLemmas
+pub mod AcceptedLoadsLemmas
+pub mod NotedLoadsLemmas

@@ -1,0 +1,4 @@
+pub mod Pieces
+pub mod SeenSetup
+pub mod StandsAlike
+pub mod SeenLaws
