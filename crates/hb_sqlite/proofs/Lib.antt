@@ -12,4 +12,6 @@ pub mod SchemaLemmas
 pub mod StoreWalks
 pub mod MemberLemmas
 pub mod LineLemmas
+pub mod KeepsLemmas
 pub mod OpenLemmas
+pub mod StoreFileLemmas

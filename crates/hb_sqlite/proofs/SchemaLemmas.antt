@@ -1,5 +1,5 @@
 -- What the statements that make a store do.
-use Rattle.std.proofs.Common.{◌≡◌, ◌≤◌, IsTrue, ℕ, pos, List, [], ◌∷◌, ℤ, false, None, Ok, Err, Result, codes, refl, sym, ap, subst, ◌∙◌, arith}
+use Rattle.std.proofs.Common.{◌≡◌, ◌≤◌, IsTrue, ℕ, pos, List, [], ◌∷◌, ◌++◌, ℤ, false, None, Ok, Err, Result, codes, refl, sym, ap, subst, ◌∙◌, arith}
 use Rattle.sqlite_value.specs.declared.value.Value.TheVariants.{Null, Int}
 use Rattle.sqlite_value.specs.Order.{Row}
 use Rattle.sqlite_trees.specs.Tree.{Trees}
@@ -71,10 +71,15 @@ abbrev pub create_runs : List ℕ
 create_runs = codes "CREATE TABLE runs (id INTEGER PRIMARY KEY, last INTEGER NOT NULL CHECK (last >= 0)) STRICT"
 
 abbrev pub create_games : List ℕ
-create_games = codes "CREATE TABLE games (id INTEGER PRIMARY KEY, run INTEGER NOT NULL, room INTEGER NOT NULL,\n  serial INTEGER NOT NULL, how INTEGER NOT NULL, score INTEGER NOT NULL, body TEXT NOT NULL,\n  UNIQUE (run, room, serial)) STRICT"
+create_games =
+    codes "CREATE TABLE games (id INTEGER PRIMARY KEY, run INTEGER NOT NULL, room INTEGER NOT NULL,\n"
+    ++ (codes "  serial INTEGER NOT NULL, how INTEGER NOT NULL, score INTEGER NOT NULL, body TEXT NOT NULL,\n"
+    ++ codes "  UNIQUE (run, room, serial)) STRICT")
 
 abbrev pub create_seats : List ℕ
-create_seats = codes "CREATE TABLE seats (game INTEGER NOT NULL REFERENCES games (id), seat INTEGER NOT NULL,\n  name TEXT NOT NULL, PRIMARY KEY (game, seat)) STRICT"
+create_seats =
+    codes "CREATE TABLE seats (game INTEGER NOT NULL REFERENCES games (id), seat INTEGER NOT NULL,\n"
+    ++ codes "  name TEXT NOT NULL, PRIMARY KEY (game, seat)) STRICT"
 
 makes_version : Makes no_schema create_version version_table
 unfolding understood everything

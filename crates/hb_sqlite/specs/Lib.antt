@@ -5,3 +5,4 @@ pub mod Within
 pub mod Rows
 pub mod Seats
 pub mod Stages
+pub mod StoreFiles

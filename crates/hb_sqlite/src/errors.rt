@@ -1,5 +1,6 @@
 //! Why is a store not opened, or a step of a call not done?
 
+use hb_keeper::KeepError;
 use sqlite::{Error, ErrorCode};
 use std::alloc::AllocError;
 
@@ -55,6 +56,19 @@ impl From<Failure> for OpenError {
         match failure {
             Failure::Refused => OpenError::Fault,
             Failure::NoMemory => OpenError::NoMemory,
+        }
+    }
+}
+
+impl From<Failure> for KeepError {
+    ghost use Rattle.hb_keeper.specs.Told.{IsFailure};
+
+    ghost from_gives = { λ _ why. IsFailure why };
+
+    fn from(failure: Failure) -> Self {
+        match failure {
+            Failure::Refused => KeepError::Fault,
+            Failure::NoMemory => KeepError::NoMemory,
         }
     }
 }

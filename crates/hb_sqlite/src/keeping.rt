@@ -1,30 +1,25 @@
 //! How does a keeper answer from a database?
 
-ghost use Rattle.std.specs.Prelude.{◌≡◌, ◌≢◌, ◌⊎◌, ◌^◌, ◌<◌, ◌≤◌, ℤ, pos, Some, None, Ok, Err, if◌then◌else◌, IfOk, IfErr};
-ghost use Rattle.sqlite.specs.State.{HasCleanDisk};
-ghost use Rattle.sqlite.specs.Steps.{over_memory};
+ghost use Rattle.std.specs.Prelude.{◌≡◌, ◌⊎◌, ◌^◌, ◌<◌, ◌≤◌, Some, None, Ok, Err, if◌then◌else◌};
 ghost use Rattle.sqlite.specs.Held.{state};
 ghost use Rattle.hb_io.specs.Causes.{next_count};
 ghost use Rattle.hb_keeper.specs.declared.errors.KeepError.TheVariants.{Fault, KeyDiffers, NoMemory};
-ghost use Rattle.hb_keeper.specs.KeptGames.{Content, put_by, same_row};
-ghost use Rattle.hb_keeper.specs.Told.{Keeps, HasCause, IsFailure};
+ghost use Rattle.hb_keeper.specs.declared.rows.Key.{Key};
+ghost use Rattle.hb_keeper.specs.KeptGames.{put_by, same_row};
+ghost use Rattle.hb_keeper.specs.Told.{Keeps, HasCause};
 ghost use Rattle.hb_sqlite.specs.Facts.{Tells};
-ghost use Rattle.hb_sqlite.specs.Stages.{HoldsVersion, IsNewStore, no_schema, nothing_kept};
-ghost use Rattle.hb_sqlite.specs.declared.errors.OpenError.TheVariants.{BadVersion};
 ghost use Rattle.hb_sqlite.specs.StoreSteps.{IsSure};
 
-use crate::errors::{Failure, OpenError};
+use crate::errors::Failure;
 use crate::members::lines_of;
 use crate::numbers::GREATEST;
-use crate::opening::prepare;
-use crate::reading::{game, id_of_key};
+use crate::reading::{game, id_of_key, ids_are_used_up};
 use crate::runs::{last_run, set_last_run};
 use crate::writing::write_game;
 use hb_io::Name;
 use hb_keeper::{GameRow, KeepError, Keeper, Key, Lines};
-use sqlite::{Alter, Connection, Error, ErrorCode, File, FileStore, MemStore};
+use sqlite::{Alter, Connection};
 use std::alloc::Global;
-use std::rt::HostRuntime;
 
 /// Keeps games in a database.
 ///
@@ -33,78 +28,9 @@ use std::rt::HostRuntime;
 /// raise its count and are answered as [`KeepError::Fault`]; what the call wrote is taken back.
 #[derive(Drop)]
 pub struct KeeperSql<S: Alter> {
-    conn: Connection<S>,
-    alloc: Global,
-    faults: u64,
-}
-
-impl KeeperSql<MemStore> {
-    /// A keeper without games, in memory.
-    pub fn open_memory(alloc: Global) -> Result<Self, OpenError>
-        ensures sure { IfOk result (λ k. IsSure (state over_memory k.conn)) }
-        ensures tells { IfOk result (λ k. Tells (state over_memory k.conn) nothing_kept) }
-        ensures version { (n : ℤ) → result ≢ Err (BadVersion n) }
-        ensures fresh { IfOk result (λ k. k.faults ≡ 0) }
-    {
-        let Ok(mut conn) = Connection::open_in_memory(alloc) else {
-            return Err(OpenError::NoMemory);
-        };
-        prepare(&mut conn)?;
-        Ok(KeeperSql {
-            conn,
-            alloc,
-            faults: 0,
-        })
-    }
-}
-
-impl KeeperSql<FileStore<File>> {
-    /// A keeper over a file, which is made if there is none.
-    ///
-    /// What the file holds is told by no clause. [`KeeperSql::adopt`] says what is kept of an open
-    /// connection.
-    pub fn open_file(rt: &HostRuntime, alloc: Global, path: &str) -> Result<Self, OpenError>
-        ensures { IfOk result (λ k. k.faults ≡ 0) }
-    {
-        match Connection::open(rt, path) {
-            Ok(conn) => KeeperSql::adopt(alloc, conn),
-            Err(Error::SqliteFailure(ErrorCode::OutOfMemory)) => Err(OpenError::NoMemory),
-            Err(_) => Err(OpenError::Fault),
-        }
-    }
-
-    /// Closes the file, with all that was written folded into it: a keeper that is dropped leaves a
-    /// log beside the file. At an error the log stays, and the next opening reads it.
-    pub fn close(self) -> Result<(), KeepError>
-        ensures { IfErr result IsFailure }
-    {
-        match self.conn.close() {
-            Ok(()) => Ok(()),
-            Err(Error::SqliteFailure(ErrorCode::OutOfMemory)) => Err(KeepError::NoMemory),
-            Err(_) => Err(KeepError::Fault),
-        }
-    }
-}
-
-impl<S: Alter + Drop> KeeperSql<S> {
-    /// A keeper over an open connection. A store without tables gets them in one transaction. At an
-    /// error the connection is dropped.
-    pub fn adopt(alloc: Global, mut conn: Connection<S>) -> Result<Self, OpenError>
-        ensures kept { IfOk result (λ k. IsSure (state S.Store k.conn) → (content : Content)
-            → Tells (state S.Store conn) content → Tells (state S.Store k.conn) content) }
-        ensures new { IfOk result (λ k. HasCleanDisk (state S.Store k.conn)
-            → (state S.Store conn).now.schema ≡ no_schema → IsNewStore (state S.Store k.conn)) }
-        ensures version { IfOk result (λ k. HasCleanDisk (state S.Store k.conn)
-            → (n : ℤ) → HoldsVersion (state S.Store conn) n → n ≡ pos 1) }
-        ensures fresh { IfOk result (λ k. k.faults ≡ 0) }
-    {
-        prepare(&mut conn)?;
-        Ok(KeeperSql {
-            conn,
-            alloc,
-            faults: 0,
-        })
-    }
+    pub(crate) conn: Connection<S>,
+    pub(crate) alloc: Global,
+    pub(crate) faults: u64,
 }
 
 impl<S: Alter> KeeperSql<S> {
@@ -133,21 +59,24 @@ impl<S: Alter> KeeperSql<S> {
         ensures sure { IsSure (state S.Store self.new.conn) → IsSure (state S.Store self.old.conn) }
         ensures cause { HasCause self.old.faults self.new.faults result }
     {
-        match write_game(&mut self.conn, key, row) {
-            Ok(id) => Ok(id),
-            Err(failure) => Err(self.error(failure)),
+        let failure = match write_game(&mut self.conn, key, row) {
+            Ok(id) => return Ok(id),
+            Err(failure) => failure,
+        };
+        match ids_are_used_up(&mut self.conn) {
+            Ok(true) => Err(KeepError::UsedUp),
+            _ => Err(self.error(failure)),
         }
     }
 
-    /// The answer where the key is kept under this id.
-    fn again(&mut self, id: u64, key: &Key, row: &GameRow) -> Result<u64, KeepError>
-        ensures keeps { IsSure (state S.Store self.new.conn)
-            → Keeps (put_by (Some id) key.now row.now)
+    /// The answer for a key that is kept under this id, whichever key it is.
+    fn again(&mut self, id: u64, row: &GameRow) -> Result<u64, KeepError>
+        ensures keeps { IsSure (state S.Store self.new.conn) → (key : Key)
+            → Keeps (put_by (Some id) key row.now)
             (Tells (state S.Store self.old.conn)) (Tells (state S.Store self.new.conn)) result }
         ensures sure { IsSure (state S.Store self.new.conn) → IsSure (state S.Store self.old.conn) }
         ensures cause { HasCause self.old.faults self.new.faults result }
     {
-        let _ = key;
         if id > GREATEST {
             return Err(self.error(Failure::Refused));
         }
@@ -195,7 +124,7 @@ impl<S: Alter> Keeper for KeeperSql<S> {
     fn put_once(&mut self, key: &Key, row: &GameRow) -> Result<u64, KeepError> {
         match id_of_key(&mut self.conn, key) {
             Ok(None) => self.append(key, row),
-            Ok(Some(id)) => self.again(id, key, row),
+            Ok(Some(id)) => self.again(id, row),
             Err(failure) => Err(self.error(failure)),
         }
     }

@@ -14,6 +14,7 @@ mod errors;
 mod keeping;
 mod members;
 mod numbers;
+mod opened;
 mod opening;
 mod reading;
 mod runs;

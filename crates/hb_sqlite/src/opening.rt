@@ -1,12 +1,13 @@
 //! How is a store opened? Its tables are made if it has none, and its version is read.
 
-ghost use Rattle.std.specs.Prelude.{◌≡◌, ℤ, ⊤, [], ◌∷◌, IsTrue, OnOk, IfOk};
+ghost use Rattle.std.specs.Prelude.{◌≡◌, ◌≢◌, ℤ, pos, ⊤, [], ◌∷◌, Err, IsTrue, OnOk, IfOk};
 ghost use Rattle.sqlite_value.specs.declared.value.Value.TheVariants.{Int};
 ghost use Rattle.sqlite.specs.Held.{state};
 ghost use Rattle.sqlite.specs.State.{HasCleanDisk};
 ghost use Rattle.hb_sqlite.specs.Stages.{HasFirstRun, HasFirstVersion, HasGames, HasNoTable, HasRuns, HasSeats, HasVersion, HoldsVersion, IsNewStore, OpensNew, OpensVersion, Reaches, no_schema};
 ghost use Rattle.hb_keeper.specs.KeptGames.{Content};
 ghost use Rattle.hb_sqlite.specs.Facts.{Tells};
+ghost use Rattle.hb_sqlite.specs.declared.errors.OpenError.TheVariants.{BadVersion};
 ghost use Rattle.hb_sqlite.specs.StoreSteps.{IsSure, Reads};
 
 use crate::errors::{Failure, OpenError};
@@ -20,15 +21,16 @@ const VERSION: i64 = 1;
 
 /// Makes the tables of a store without tables, and reads the version.
 pub(crate) fn prepare<S: Alter>(conn: &mut Connection<S>) -> Result<(), OpenError>
+    ensures clean { HasCleanDisk (state S.Store conn.new) → HasCleanDisk (state S.Store conn.old) }
     ensures kept { IsSure (state S.Store conn.new) → (content : Content)
-        → Tells (state S.Store conn.old) content
-        → OnOk result (Tells (state S.Store conn.new) content) }
+        → Tells (state S.Store conn.old) content → Tells (state S.Store conn.new) content }
     ensures made { HasCleanDisk (state S.Store conn.new)
         → (state S.Store conn.old).now.schema ≡ no_schema
         → OpensNew (state S.Store conn.new) result }
     ensures version { HasCleanDisk (state S.Store conn.new) → (n : ℤ)
         → HoldsVersion (state S.Store conn.old) n
         → OpensVersion n (state S.Store conn.new) result }
+    ensures other { (n : ℤ) → result ≡ Err (BadVersion n) → n ≢ pos 1 }
 {
     if conn.schema().tables.as_slice().is_empty() {
         make_tables(conn)?;
@@ -43,6 +45,7 @@ fn check_version<S: Alter>(conn: &mut Connection<S>) -> Result<(), OpenError>
     ensures version { HasCleanDisk (state S.Store conn.new) → (n : ℤ)
         → HoldsVersion (state S.Store conn.old) n
         → OpensVersion n (state S.Store conn.new) result }
+    ensures other { (n : ℤ) → result ≡ Err (BadVersion n) → n ≢ pos 1 }
 {
     let version = version(conn)?;
     if version != VERSION {
@@ -87,6 +90,7 @@ fn only_number(rows: &[Row]) -> Result<i64, Failure>
 
 /// Makes the tables of a store without tables, with their first rows, all of it or nothing.
 fn make_tables<S: Alter>(conn: &mut Connection<S>) -> Result<(), Failure>
+    ensures clean { HasCleanDisk (state S.Store conn.new) → HasCleanDisk (state S.Store conn.old) }
     ensures made { HasCleanDisk (state S.Store conn.new)
         → (state S.Store conn.old).now.schema ≡ no_schema
         → OnOk result (IsNewStore (state S.Store conn.new)) }

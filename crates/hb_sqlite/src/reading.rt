@@ -1,16 +1,16 @@
 //! How is a game read?
 
-ghost use Rattle.std.specs.Prelude.{◌≡◌, ◌^◌, ◌<◌, List, ℕ, map, slice_get, IfOk, IsPermutation};
+ghost use Rattle.std.specs.Prelude.{◌≡◌, ◌^◌, ◌<◌, List, ℕ, map, not, nat_lt, length, slice_get, IfOk, IsPermutation};
 ghost use Rattle.std.specs.declared.option.Option.{Option};
 ghost use Rattle.sqlite.specs.Held.{state};
 ghost use Rattle.hb_keeper.specs.declared.rows.GameRow.{GameRow};
-ghost use Rattle.hb_keeper.specs.KeptGames.{row_of_id, id_of};
+ghost use Rattle.hb_keeper.specs.KeptGames.{greatest, row_of_id, id_of};
 ghost use Rattle.hb_sqlite.specs.Facts.{row_shown, seat_name, seat_shown, cells_of, names_in, ids_from, id_row};
 ghost use Rattle.hb_sqlite.specs.Rows.{IsHead, IsHeadOf};
 ghost use Rattle.hb_sqlite.specs.StoreSteps.{Does, Reads};
 
 use crate::errors::Failure;
-use crate::numbers::stored;
+use crate::numbers::{GREATEST, stored};
 use crate::tables::{FIND_KEY, READ_GAME, READ_SEAT};
 use hb_io::{Name, Text, name};
 use hb_keeper::{GameRow, Key, Names};
@@ -68,6 +68,15 @@ pub(crate) fn game_rows<S: Alter>(conn: &mut Connection<S>, id: u64) -> Result<V
         (λ content rows. rows.items ≡ row_shown (row_of_id content id)) result }
 {
     conn.query_all(READ_GAME, params![stored(id)])
+}
+
+/// Whether a game has the greatest id, so that no further game gets one.
+pub(crate) fn ids_are_used_up<S: Alter>(conn: &mut Connection<S>) -> Result<bool, Failure>
+    ensures { Reads (state S.Store conn.old) (state S.Store conn.new)
+        (λ content used. used ≡ not (nat_lt (length content.rows) greatest)) result }
+{
+    let rows = game_rows(conn, GREATEST)?;
+    Ok(!rows.is_empty())
 }
 
 fn seat_rows<S: Alter>(conn: &mut Connection<S>, game: u64, seat: u32) -> Result<Vec<Row>, Error>

@@ -7,7 +7,7 @@ use sqlite::Connection;
 use std::test::Fail;
 
 /// The statements that make a store of version 1 without games.
-const STATEMENTS: [&str; 6] = [
+pub(crate) const STATEMENTS: [&str; 6] = [
     "CREATE TABLE version (n INTEGER NOT NULL) STRICT",
     "CREATE TABLE runs (id INTEGER PRIMARY KEY, last INTEGER NOT NULL CHECK (last >= 0)) STRICT",
     "CREATE TABLE games (id INTEGER PRIMARY KEY, run INTEGER NOT NULL, room INTEGER NOT NULL, \
@@ -57,7 +57,9 @@ fn a_store_made_by_its_text_is_adopted(rt: HostRuntime) -> Result<(), Fail> {
     let Ok(mut conn) = Connection::open(&rt, "text.db") else {
         panic!(rt; "a kept file opens");
     };
-    assert!(rt; conn.execute("UPDATE version SET n = 2", &[]).is_ok());
-    assert!(rt; matches!(KeeperSql::adopt(alloc, conn), Err(OpenError::BadVersion(2))));
+    assert!(rt; conn.execute("UPDATE version SET n = 7", &[]).is_ok());
+    assert!(rt; conn.close().is_ok());
+    let refused = KeeperSql::open_file(&rt, alloc, "text.db");
+    assert!(rt; matches!(refused, Err(OpenError::BadVersion(7))));
     Ok(())
 }

@@ -4,8 +4,12 @@
 #[cfg(test)]
 mod alike;
 #[cfg(test)]
+mod crash;
+#[cfg(test)]
 mod files;
 #[cfg(test)]
 mod games;
+#[cfg(test)]
+mod unsound;
 #[cfg(test)]
 mod worked;

@@ -1,5 +1,7 @@
-use Rattle.std.proofs.Common.{◌≡◌, rules}
+use Rattle.std.proofs.Common.{◌≡◌, ◌≤◌, arith, rules}
+use Rattle.sqlite_trees.specs.View.{doubt}
 use Rattle.sqlite.specs.Held.{state}
+use Rattle.sqlite.specs.State.{HasCleanDisk}
 use Rattle.hb_sqlite.proofs.OpenLemmas.{founded}
 use Rattle.hb_sqlite.proofs.opening.make_tables.Goals as goal
 
@@ -8,7 +10,11 @@ returns g c =
     let end = c.commit.new.self.0 in
     let same : end ≡ c.conn-2-1.given.0 = search rules in
     let fills = rw c.transaction-tx.ensures.begun at c.in_ok-fill.ensures.made in
+    let less = c.commit.ensures.survives.clean in
+    let early : HasCleanDisk (state g.S.Store end) → HasCleanDisk (state g.S.Store c.args.conn.now) =
+    λ clean. fills.clean (omega (arith, clean, less)) in
     record {
+      clean = rw same at early;
       made = rw same at (founded (state g.S.Store c.args.conn.now) (state g.S.Store c.fill.new.tx.conn.now) (state g.S.Store end) tt
-          c.commit.ensures.survives.clean fills (λ clean. (c.in_ok-commit.ensures.ok clean).1));
+          less fills (λ clean. (c.in_ok-commit.ensures.ok clean).1));
     }

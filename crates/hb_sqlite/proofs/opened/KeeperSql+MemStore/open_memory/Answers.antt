@@ -1,5 +1,5 @@
 use Rattle.sqlite.proofs.Callers.{memory_is_clean}
-use Rattle.hb_sqlite.proofs.keeping.KeeperSql+MemStore.open_memory.Goals as goal
+use Rattle.hb_sqlite.proofs.opened.KeeperSql+MemStore.open_memory.Goals as goal
 
 pub returns-in_err-prepare-clause-version : goal.returns-in_err-prepare-clause-version
 returns-in_err-prepare-clause-version c = λ n is.
