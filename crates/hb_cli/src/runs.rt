@@ -14,7 +14,7 @@ use hb_io::{Sink, Source, write_all};
 use std::alloc::Global;
 
 /// Does what the words ask for: reads the source to its end, and writes the whole text to `out`, or
-/// one line to `err` that says why there is none.
+/// one line to `err` that says why there is none, or the usage.
 ///
 /// Words are those of the command line without the program's name. If a source or a sink does not
 /// tell its bytes, the clauses say nothing of these; what they say of words, causes and counts of

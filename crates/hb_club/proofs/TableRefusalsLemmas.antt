@@ -46,7 +46,7 @@ kept_reply-none : (o : Option OwnEntry) (c : Command) → is_none o ≡ true →
 kept_reply-none None c h = refl
 kept_reply-none (Some o) c h = cc
 
--- rows 1 to 5 refuse, if nothing is kept for the number
+-- the rows up to `TableOpen` refuse, if nothing is kept for the number
 serial_rows-refuse : (t : Table) (own : List OwnEntry) (e : Entry) → is_none (kept_entry own e.number) ≡ true
     → list_all refuses (serial_rows t own e) ≡ true
 serial_rows-refuse t own e fresh =

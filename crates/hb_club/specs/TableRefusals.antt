@@ -63,7 +63,7 @@ act_rule None past seat action = None
 
 -- The rows, in the order in which they are tried. Each is the reply if it holds.
 
--- 1 to 5, by serial and number; the kept reply stands in row 2
+-- by serial and number, up to `TableOpen`; the kept reply stands in the place of `NumberReused`
 abbrev pub serial_rows : Table → List OwnEntry → Entry → List (Option Reply)
 serial_rows t own e = let here = e.table == t.latest in
     let is_full = nat_le (number_limit e.command) (kept_count own) in

@@ -3,10 +3,11 @@
 //! clerk asks and notes, the lobby's words, and what a hall answers.
 //!
 //! There is no room here, only what rooms are by definition. The definitions in `specs/` say what a
-//! room answers as a function of the list of all that it was ever asked: `answer_to` of
-//! `specs/Rooms.antt`. The reply to an entry is the first row that holds of a table of refusals
-//! (`specs/TableRefusals.antt`); the facts that the rows read are read off the items of the latest
-//! table (`specs/TableItems.antt`, `specs/Seating.antt`, `specs/TableClock.antt`).
+//! room answers as a function of what it was made with and of the list of all that it was ever
+//! asked: `answer_to` of `specs/Rooms.antt`. The reply to an entry is the first row that holds of a
+//! table of refusals (`specs/TableRefusals.antt`); the facts that the rows read are read off the
+//! items of the latest table (`specs/TableItems.antt`, `specs/Seating.antt`,
+//! `specs/TableClock.antt`).
 //!
 //! `specs/Views.antt` says what a member may observe. [`answers_see_the_view`] is the law that each
 //! reply is a function of that and of the member's own entries, and [`views_see_the_game`] that the

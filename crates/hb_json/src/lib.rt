@@ -7,9 +7,9 @@
 //! function's contract is that. The proofs show that the data hold no float and nest little, so
 //! that their text is exact and reads back.
 //!
-//! An option's name, type, default and range stand here alone. A new option that is true or false
-//! is a variant of [`OptionKey`], a field of [`WrittenModes`] and a member that [`options_value`]
-//! writes.
+//! An option's name and type stand here alone; its default and range stand also where a game
+//! starts. In this crate, a new option that is true or false is a variant of [`OptionKey`], a field
+//! of [`WrittenModes`] and a member that [`options_value`] writes.
 #![tactic(auto)]
 
 mod lines;

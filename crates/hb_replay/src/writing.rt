@@ -89,8 +89,9 @@ fn replay_value(alloc: Global, replay: &Replay) -> Result<Value, AllocError>
     Ok(Value::Object(map))
 }
 
-/// The canonical text of a replay, as bytes: compact JSON with keys in byte order, in which each
-/// option stands only where it is not its default. What is read of it is this replay.
+/// The canonical text of a replay, as bytes: compact JSON with keys in byte order. The variant
+/// stands always, both times if the game is timed, and any other option if it is not its default.
+/// What is read of the text is this replay.
 ///
 /// It takes time and memory in proportion to the text.
 pub fn write(alloc: Global, replay: &Replay) -> Result<Bytes, AllocError>

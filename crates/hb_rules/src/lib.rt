@@ -2,14 +2,12 @@
 //! above cites.
 //!
 //! There is little code here: the limits, the default options, and the numbers by which ends and
-//! rules are written. `specs/` holds the definitions, in the order in which a reader needs them:
-//! `Suits` (what a variant is), `Cards` (copies and decks), `Touch` (clues), `Setup`, `Start`,
-//! `Hands`, `Result` (stacks, tokens, strikes, the end), `Legality` (which rule an act breaks),
-//! `Events` (what is told, and what a blind set sees of it), `Deals` (which identities an
-//! observation leaves possible, as a relation and as a list), `Marks` (which identities the clues
-//! allow) and `Numbers` (how ends and rules are written). [`possible_are_listed`] is the law that
-//! the list is that of the relation. `proofs/` holds the laws of these definitions that several
-//! crates use, and worked games computed on them.
+//! rules are written. `specs/` holds the definitions, which docs/READING.md lists in the order in
+//! which a reader needs them, and worked games that are computed on them. `Deals` is their aim:
+//! which identities an observation leaves possible, as a relation and as a list.
+//! [`possible_are_listed`] is the law that the list is that of the relation, and
+//! [`heights_count_plays`] says what a height counts. `proofs/` holds the laws of these definitions
+//! that several crates use.
 #![tactic(auto)]
 
 pub mod acts;

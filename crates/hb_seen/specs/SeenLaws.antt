@@ -2,7 +2,7 @@
 -- that were made, `more ++ past`, and of the first of them, `past`: what the setup that is seen
 -- after all of them says of the game as it stood after the first. Without more acts, that is the
 -- game as it stands. No law asks that the acts be legal, nor that the deck be one of the variant:
--- only that it have as many cards.
+-- only that it have as many cards, and one that there be two players.
 use Rattle.std.specs.Prelude.{◌≡◌, ◌≤◌, ℕ, ◌+◌, ◌^◌, false, IsSome, IsTrue, List, ◌++◌, drop, length, take}
 use Rattle.hb_rules.specs.declared.acts.Act.{Act}
 use Rattle.hb_rules.specs.declared.acts.Action.{Action}

@@ -115,8 +115,8 @@ impl<S: Alter> KeeperSql<S> {
     /// A keeper over an open connection. A store without tables gets them in one transaction. An
     /// error comes with the connection.
     ///
-    /// It answers [`OpenError::BadVersion`] only if `version` has another number than 1 in its only
-    /// row, and with that number. [`OpenError::Fault`] is the store's word.
+    /// An [`OpenError::BadVersion`] never has the number 1. While the disk is clean, it has the
+    /// number in the only row of `version`. When [`OpenError::Fault`] comes, no clause says.
     pub fn over(alloc: Global, mut conn: Connection<S>) -> Result<Self, (OpenError, Connection<S>)>
         ensures clean { IfOk result (λ k. HasCleanDisk (state S.Store k.conn)
             → HasCleanDisk (state S.Store conn)) }

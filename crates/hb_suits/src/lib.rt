@@ -6,8 +6,8 @@
 //! `variant` finds a variant by its name, or says why there is none.
 //!
 //! Each contract gives the exact result, by the definitions of `hb_rules` and by those in `specs/`:
-//! `Variants` (the variant that a list of suits makes) and `Names` (the listed names, and those
-//! that are spelled by their suits). No call takes memory.
+//! `Variants` (the variant that a list of suits makes) and `VariantNames` (the listed names, and
+//! those that are spelled by their suits). No call takes memory.
 #![tactic(auto)]
 
 mod cards;

@@ -30,7 +30,7 @@ pub fn kind_of(suit: Suit) -> Kind
 }
 
 /// Whether suits of this kind have a clue colour (this project's own): all but those that every
-/// colour or no colour touches.
+/// colour or no colour touches, and Prism, whose cards a colour touches by their ranks.
 pub(crate) fn has_color(kind: Kind) -> bool
     ensures { result ≡ has_color kind }
 {

@@ -19,7 +19,7 @@ use hb_suits::{
     Identity, Kind, Special, Variant, color_suits, colors, copies, identity, kind_of, suit_at,
 };
 
-/// Whether rank clues do not go by the rank of a card of this kind.
+/// Whether a special rank of this kind is not clued.
 fn hides_rank(kind: Kind) -> bool
     ensures { result ≡ hides_rank kind }
 {
