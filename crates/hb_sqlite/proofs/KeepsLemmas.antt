@@ -1,5 +1,5 @@
 -- What a call keeps, by what its steps keep.
-use Rattle.std.proofs.Common.{◌≡◌, ℕ, ◌⊎◌, inl, inr, Some, Ok, Result, ap, subst, ◌∙◌}
+use Rattle.std.proofs.Common.{◌≡◌, ℕ, inl, inr, Some, Ok, Result, ap, subst, ◌∙◌}
 use Rattle.sqlite.specs.State.{State}
 use Rattle.hb_keeper.specs.declared.errors.KeepError.{KeepError}
 use Rattle.hb_keeper.specs.declared.rows.Key.{Key}

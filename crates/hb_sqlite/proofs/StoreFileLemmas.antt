@@ -1,5 +1,5 @@
 -- What an opening finds in the files of a store.
-use Rattle.std.proofs.Common.{◌≡◌, ℤ, pos, Result, Ok, Err, IfOk, refl, sym, ap, subst, ◌∙◌}
+use Rattle.std.proofs.Common.{◌≡◌, ℤ, pos, Result, Ok, Err, IfOk, sym, ap, subst, ◌∙◌}
 use Rattle.sqlite_wal.specs.Recovery.{Image}
 use Rattle.sqlite_trees.specs.Tree.{Trees}
 use Rattle.sqlite_trees.specs.Objects.{catalog_tree}
@@ -15,7 +15,7 @@ use Rattle.hb_sqlite.specs.Store.{store_schema}
 use Rattle.hb_sqlite.specs.Facts.{Tells}
 use Rattle.hb_sqlite.specs.Stages.{HoldsVersion, IsNewStore, no_schema}
 use Rattle.hb_sqlite.specs.StoreSteps.{IsSure}
-use Rattle.hb_sqlite.specs.StoreFiles.{HoldsContent, FilesHold, FilesHoldNoTable, FilesHoldVersion}
+use Rattle.hb_sqlite.specs.StoreFiles.{FilesHold, FilesHoldNoTable, FilesHoldVersion}
 
 module _ (s : State) (image : Image) (opens : Opens s) (live : IsLive s) (found : FindsIn image s) where
   -- an opening finds the trees of the files
