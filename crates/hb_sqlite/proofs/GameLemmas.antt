@@ -24,10 +24,11 @@ use Rattle.hb_keeper.specs.declared.rows.GameRow.{GameRow}
 use Rattle.hb_sqlite.specs.Store.{store_schema, games_table}
 use Rattle.hb_sqlite.specs.Facts.{game_row, game_rows}
 use Rattle.hb_sqlite.proofs.Texts.{write_game_text, write_game_is, write_game_plain, game_terms, cast_null, cast_number}
-use Rattle.hb_sqlite.proofs.RunLemmas.{went, same_value}
+use Rattle.hb_sqlite.proofs.RunLemmas.{not-stopped, same_value}
 
-pub below : (a b : ℕ) → a < b → value_cmp (Int (pos a)) (Int (pos b)) ≡ Less
-below a b lt = value_cmp-Int (pos a) (pos b) ∙ grind (arith, nat_tests)
+-- numbers are compared as they are
+pub value_cmp-below : (a b : ℕ) → a < b → value_cmp (Int (pos a)) (Int (pos b)) ≡ Less
+value_cmp-below a b lt = value_cmp-Int (pos a) (pos b) ∙ grind (arith, nat_tests)
 
 -- the rowid after those of the games
 pub next_game : (id : ℕ) (rows : List (Key × GameRow))
@@ -35,6 +36,7 @@ pub next_game : (id : ℕ) (rows : List (Key × GameRow))
 next_game id [] = ap pos (omega arith)
 next_game id (kept ∷ rows) = next_game (id + 1) rows ∙ ap pos (omega arith)
 
+-- a row with a greater rowid is put behind
 pub put_after : (new r : Row) (rs : List Row) → value_cmp (rowid r) (rowid new) ≡ Less → put_row new (r ∷ rs) ≡ r ∷ put_row new rs
 put_after new r rs less = ap (λ o. match_ordering o (r ∷ put_row new rs) (new ∷ rs) (new ∷ r ∷ rs)) less
 
@@ -46,7 +48,7 @@ put_last id (kept ∷ rows) key row =
     let first = game_row id kept.0 kept.1 in
     let n = id + length {A = Key × GameRow} (kept ∷ rows) in
     let same : n ≡ id + 1 + length rows = omega arith in
-    put_after (game_row n key row) first (game_rows (id + 1) rows) (below id n (omega arith))
+    put_after (game_row n key row) first (game_rows (id + 1) rows) (value_cmp-below id n (omega arith))
     ∙ ap (λ all. first ∷ all) (ap (λ n. put_row (game_row n key row) (game_rows (id + 1) rows)) same ∙ put_last (id + 1) rows key row)
 
 not02 : (◌≡◌ {A = ℕ} 0 2) → ⊥
@@ -73,6 +75,7 @@ pub record SameButGames (old new : Trees) : Type 0 where
   pub runs : new 1 ≡ old 1
   pub seats : new 4 ≡ old 4
 
+-- what the statement that puts a game leaves in the tables
 pub writes_game : (old new : State) (key : Key) (row : GameRow) (rows : List (Key × GameRow)) (count : ℕ) → old.now.schema ≡ store_schema
     → old.now.trees 2 ≡ game_rows 1 rows
     → Executes write_game_text (game_params key row) old new (Ok count)
@@ -84,13 +87,13 @@ writes_game old new key row rows count has games h =
     let command = Insert 2 (Values game_terms 8) in
     let w = runs_as write_game_text params old new store_schema has command write_game_is write_game_plain count h in
     let text = statement_of write_game_text (understood store_schema write_game_text) in
-    let done = went (subst (λ s. Does old.step_limit (mode_of old) params (record old.now { schema = s }) text None command
+    let done = not-stopped (subst (λ s. Does old.step_limit (mode_of old) params (record old.now { schema = s }) text None command
     (Ok (w.tally, new.now))) has w.changed) in
-    let ended = same_value (went (went done.2).2).2 in
+    let ended = same_value (not-stopped (not-stopped done.2).2).2 in
     let now = ap (λ (p : Tally × Database). p.1) ended in
-    let given = went done.1 in
-    let written = went (went given.2).2 in
-    let counted = went written.2 in
+    let given = not-stopped done.1 in
+    let written = not-stopped (not-stopped given.2).2 in
+    let counted = not-stopped written.2 in
     let source = new_game key row ∷ [] in
     let edit = edit_of db games_table [] Chosen 0 source in
     let wrote = subst (λ all. Act.Writes store_schema (mode_of old).keys db (edit_of db games_table [] Chosen 0 all)

@@ -69,6 +69,7 @@ shown_of rows id None db all games is a = shows_none 2 with_id (col 1 5 ∷ col 
 shown_of rows id (Some it) db all games is a = shows_one 2 with_id (col 1 5 ∷ col 1 6 ∷ col 1 7 ∷ []) db (Int (pos id) ∷ [])
     (game_row id it.0 it.1) all (ap (matching with_id (Int (pos id) ∷ [])) games ∙ is) a
 
+-- the row of an id above 0 is that of the game at its place
 pub row_after : (content : Content) (id : ℕ) → row_of_id content (suc id) ≡ option_map (λ (it : Key
     × GameRow). it.1) (slice_get content.rows (suc id - 1))
 row_after content id = let e : nat_lt 0 (suc id) ≡ true = grind (arith, nat_tests) in rw e refl
@@ -86,6 +87,7 @@ reads_game old new (suc id) content all tells h =
     (omega arith)) a
     ∙ ap row_shown (sym (row_after content id))
 
+-- what the query for a game by its id answers
 pub game_found : {A : Type 0} (items : A → List Row) (old new : State) (id : ℕ) (r : Result A Error)
     → doubt old.is_clean ≤ doubt new.is_clean
     → (HasCleanDisk new → IfOk r (λ rows. Shown read_game_text (Int (pos id) ∷ []) old new (items rows))) → (HasCleanDisk new
@@ -128,6 +130,7 @@ reads_seat old new (suc game) seat content all tells h =
     (finds_seat (suc game) seat 1 1 content.rows (omega arith)) a
     ∙ ap seat_shown (named seat (slice_get content.rows (suc game - 1)) ∙ ap (seat_name seat) (sym (row_after content game)))
 
+-- what the query for the name at a seat answers
 pub seat_found : {A : Type 0} (items : A → List Row) (old new : State) (game seat : ℕ) (r : Result A Error)
     → doubt old.is_clean ≤ doubt new.is_clean
     → (HasCleanDisk new → IfOk r (λ rows. Shown read_seat_text (Int (pos game) ∷ Int (pos seat) ∷ []) old new (items rows)))
@@ -146,6 +149,7 @@ reads_key old new key content all tells h =
     (key_params key) old new store_schema tells.schema _ find_key_is.0 find_key_plain find_key_is.1 all h).answer Null in
     shows_key key content.rows old.now.trees all tells.games a
 
+-- what the query for the ids under a key answers
 pub key_found : {A : Type 0} (items : A → List Row) (old new : State) (key : Key) (r : Result A Error)
     → doubt old.is_clean ≤ doubt new.is_clean
     → (HasCleanDisk new → IfOk r (λ rows. Shown find_key_text (key_params key) old new (items rows))) → (HasCleanDisk new
@@ -157,5 +161,5 @@ key_found items old new key r less =
     (λ content all tells h. reads_key old new key content all tells h) less items r
 
 -- a number below 2^63 as a parameter has it
-pub round : (z : ℤ) (n : ℕ) → z ≡ pos n → n < 2 ^ 63 → to_z w64 (of_z w64 z) ≡ pos n
-round z n is low = rw is (to_z_pos w64 n low)
+pub to_z-of : (z : ℤ) (n : ℕ) → z ≡ pos n → n < 2 ^ 63 → to_z w64 (of_z w64 z) ≡ pos n
+to_z-of z n is low = rw is (to_z_pos w64 n low)

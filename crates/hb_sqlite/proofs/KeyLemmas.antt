@@ -20,9 +20,11 @@ use Rattle.hb_sqlite.specs.Facts.{game_row, game_rows, ids_from, id_row}
 use Rattle.hb_sqlite.proofs.Texts.{equals, find_key}
 use Rattle.hb_sqlite.proofs.SelectLemmas.{matching, same_number}
 
+-- the filter: run, room and serial are those of the key
 abbrev pub of_key : List Term
 of_key = equals (col 1 2) (col 0 0) ∷ equals (col 1 3) (col 0 1) ∷ equals (col 1 4) (col 0 2) ∷ []
 
+-- a key as parameters
 abbrev pub key_params : Key → Row
 key_params key = Int (pos key.run) ∷ Int (pos key.room) ∷ Int (pos key.serial) ∷ []
 
@@ -91,6 +93,7 @@ shows_key key rows db all games a =
     map-map [] = refl
     map-map (id ∷ ids) = ap (λ more. id_row id ∷ more) (map-map ids)
 
+-- if no row is shown, there is no id
 pub no_ids : (ids : List ℕ) → IsPermutation (map id_row ids) [] → slice_get ids 0 ≡ None
 no_ids [] h = refl
 no_ids (id ∷ ids) h = absurd (let e = length_permutation (map id_row (id ∷ ids)) [] h in omega (arith, e))
@@ -99,16 +102,19 @@ no_ids (id ∷ ids) h = absurd (let e = length_permutation (map id_row (id ∷ i
 pub no_id : (key : Key) (rows : List (Key × GameRow)) → IsPermutation (map id_row (ids_from 1 key rows)) [] → id_from 1 key rows ≡ None
 no_id key rows h = first_id 1 key rows ∙ no_ids (ids_from 1 key rows) h
 
+-- if one row is shown, there is an id
 pub one_of : (ids : List ℕ) (row : Row) → IsPermutation (map id_row ids) (row ∷ []) → (id : ℕ) × (slice_get ids 0 ≡ Some id)
     × (row ≡ id_row id)
 one_of [] row h = absurd (let e = length_permutation [] (row ∷ []) h in omega (arith, e))
 one_of (id ∷ []) row h = let e = one_permutation (id_row id) (row ∷ []) h in (id, refl, cc)
 one_of (id ∷ id' ∷ ids) row h = absurd (let e = length_permutation (map id_row (id ∷ id' ∷ ids)) (row ∷ []) h in omega (arith, e))
 
+-- if one row is shown, it has the first id under the key
 pub one_id : (key : Key) (rows : List (Key × GameRow)) (row : Row) → IsPermutation (map id_row (ids_from 1 key rows)) (row ∷ [])
     → (id : ℕ) × (id_from 1 key rows ≡ Some id) × (row ≡ id_row id)
 one_id key rows row h = let it = one_of (ids_from 1 key rows) row h in (it.0, first_id 1 key rows ∙ it.1, it.2)
 
+-- if the list of rows is empty, there is no id
 pub empty_ids : (ids : List ℕ) (rows : List Row) → IsPermutation (map id_row ids) rows → length rows ≡ 0 → slice_get ids 0 ≡ None
 empty_ids ids [] h none = no_ids ids h
 empty_ids ids (row ∷ rows) h none = absurd (omega (arith, none))

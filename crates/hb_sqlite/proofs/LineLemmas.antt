@@ -45,6 +45,7 @@ shown_ids name id (kept ∷ rows) =
     ∙ ap (λ all. map id_row (ids_within id name kept.1.names) ++ all) (shown_ids name (id + 1) rows)
     ∙ sym (map-append id_row (ids_within id name kept.1.names) (seat_ids (id + 1) name rows))
 
+-- what the query for the games of a member answers
 pub ids_found : {A : Type 0} (items : A → List Row) (old new : State) (name : List ℕ) (r : Result A Error)
     → doubt old.is_clean ≤ doubt new.is_clean
     → (HasCleanDisk new → IfOk r (λ rows. Shown games_of_text (Words name ∷ []) old new (items rows))) → (HasCleanDisk new
@@ -112,6 +113,7 @@ lines_at-append content (id ∷ xs) ys =
     ap (λ l. listed (line_in id (row_of_id content id)) ++ l) (lines_at-append content xs ys)
     ∙ sym (append_assoc (listed (line_in id (row_of_id content id))) (lines_at content xs) (lines_at content ys))
 
+-- one line more was read
 pub more_lines : {E F : Type 0} (a b d : State) (k : ℕ) (ids : List ℕ) (lines new : List Line) (id : ℕ) (line : Line)
     → slice_get ids k ≡ Some id
     → Reads {E = E} a b (λ content all. all ≡ lines_at content (take k ids)) (Ok lines)

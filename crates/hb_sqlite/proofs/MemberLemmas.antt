@@ -13,7 +13,7 @@ use Rattle.sqlite_sql.specs.Program.{overlay}
 use Rattle.sqlite_sql.proofs.QueryLemmas.{output_cmp_total}
 use Rattle.sqlite_keyed.proofs.ListLemmas.{all-append, ascending-append}
 use Rattle.sqlite_keyed.proofs.SortLemmas.{sorted_unique}
-use Rattle.hb_sqlite.proofs.GameLemmas.{below}
+use Rattle.hb_sqlite.proofs.GameLemmas.{value_cmp-below}
 use Rattle.std.proofs.Common.{◌≤◌, Result, IfOk, IfErr}
 use Rattle.sqlite_trees.specs.View.{doubt}
 use Rattle.sqlite.specs.declared.error.Error.{Error}
@@ -52,6 +52,7 @@ pub same_text : (a b : List ℕ) → is_true (binary (Compare Eq Binary) (Words 
 unfolding binary
 same_text a b = told (is_eq (value_cmp (Words a) (Words b))) ∙ ap is_eq (by_bytes a b) ∙ sym (texts_ties a b)
 
+-- the filter: the seat has the name
 abbrev pub of_name : List Term
 of_name = equals (col 1 3) (col 0 0) ∷ []
 
@@ -70,6 +71,7 @@ outputs_from name game seat [] = []
 outputs_from name game seat (other ∷ names) = if bytes_eq other name then seat_output game seat ∷ outputs_from name game
     (seat + 1) names else outputs_from name game (seat + 1) names
 
+-- what is shown of all seats with the name, and what it is ordered by
 abbrev pub outputs_of : List ℕ → ℕ → List (Key × GameRow) → List Output
 outputs_of name id [] = []
 outputs_of name id (kept ∷ rows) = outputs_from name id 0 kept.1.names ++ outputs_of name (id + 1) rows
@@ -108,13 +110,13 @@ abbrev Below : Output → Output → Type 0
 Below a b = output_cmp games_of a b ≡ Less
 
 later_game : (g h s t : ℕ) → g < h → Below (seat_output g s) (seat_output h t)
-later_game g h s t lt = ap (λ o. ordering_then o (ordering_then (value_cmp (Int (pos s)) (Int (pos t))) Equal)) (below g h lt)
+later_game g h s t lt = ap (λ o. ordering_then o (ordering_then (value_cmp (Int (pos s)) (Int (pos t))) Equal)) (value_cmp-below g h lt)
 
 later_seat : (g s t : ℕ) → s < t → Below (seat_output g s) (seat_output g t)
 later_seat g s t lt =
     let same : value_cmp (Int (pos g)) (Int (pos g)) ≡ Equal = value_cmp-Int (pos g) (pos g) ∙ grind (arith, nat_tests) in
     ap (λ o. ordering_then o (ordering_then (value_cmp (Int (pos s)) (Int (pos t))) Equal)) same
-    ∙ ap (λ o. ordering_then o Equal) (below s t lt)
+    ∙ ap (λ o. ordering_then o Equal) (value_cmp-below s t lt)
 
 above_seat : (name : List ℕ) (g s t : ℕ) (names : List (List ℕ)) → s < t
     → AllByRecursion (Below (seat_output g s)) (outputs_from name g t names)
@@ -155,11 +157,11 @@ each_above name g s (other ∷ names) rows = elim (cases_Bool (bytes_eq other na
 ]
 
 -- the seats are in order of games and seats
-pub rises : (name : List ℕ) (id : ℕ) (rows : List (Key × GameRow)) → IsAscending Below (outputs_of name id rows)
-rises name id [] = tt
-rises name id (kept ∷ rows) =
+pub in-order : (name : List ℕ) (id : ℕ) (rows : List (Key × GameRow)) → IsAscending Below (outputs_of name id rows)
+in-order name id [] = tt
+in-order name id (kept ∷ rows) =
     ascending-append Below (outputs_from name id 0 kept.1.names) (outputs_of name (id + 1) rows) (rises_from name id 0 kept.1.names)
-    (rises name (id + 1) rows) (each_above name id 0 kept.1.names rows)
+    (in-order name (id + 1) rows) (each_above name id 0 kept.1.names rows)
 
 -- what the query shows: the game of each seat with the name, in order
 pub member_rows : (name : List ℕ) (rows : List (Key × GameRow)) (db : Trees) (all : List Row) → db 4 ≡ numbered_from 1 (seat_rows 1 rows)
@@ -169,10 +171,11 @@ member_rows name rows db all seats a =
     let staged : a.staged ≡ matching of_name (Words name ∷ []) (numbered_from 1 (seat_rows 1 rows)) = a.grouped
     ∙ ap (matching of_name (Words name ∷ [])) seats in
     let kept : a.kept ≡ outputs_of name 1 rows = a.distinct ∙ ap (map (output games_of)) staged ∙ shows_member name 1 1 rows in
-    let ordered = sorted_unique (output_cmp games_of) (output_cmp_total games_of) (outputs_of name 1 rows) a.ordered (rises name 1 rows)
+    let ordered = sorted_unique (output_cmp games_of) (output_cmp_total games_of) (outputs_of name 1 rows) a.ordered (in-order name 1 rows)
     (subst (λ k. IsPermutation k a.ordered) kept a.same) a.sorted in
     a.shown ∙ ap (λ xs. page games_of (Words name ∷ []) (map (λ (o : Output). o.1) xs)) ordered
 
+-- the query for a name answers the game of each of its seats
 pub reads_member : (old new : State) (name : List ℕ) (content : Content) (all : List Row) → Tells old content
     → Shown games_of_text (Words name ∷ []) old new all
     → all ≡ map (λ (o : Output). o.1) (outputs_of name 1 content.rows)
@@ -181,6 +184,7 @@ reads_member old new name content all tells h =
     (Words name ∷ []) old new store_schema tells.schema _ games_of_is.0 games_of_plain games_of_is.1 all h).answer Null in
     member_rows name content.rows old.now.trees all tells.seats a
 
+-- what the query for a name answers, or that it fails
 pub member_found : {A : Type 0} (items : A → List Row) (old new : State) (name : List ℕ) (r : Result A Error)
     → doubt old.is_clean ≤ doubt new.is_clean
     → (HasCleanDisk new → IfOk r (λ rows. Shown games_of_text (Words name ∷ []) old new (items rows))) → (HasCleanDisk new

@@ -40,10 +40,10 @@ version_found items old new (Ok rows) ok clean n holds =
 version_found items old new (Err e) ok clean n holds = tt
 
 -- the tables are made and committed
-pub founded : {A E : Type 0} (start mid end : State) (x : A) → doubt mid.is_clean ≤ doubt end.is_clean
+pub new-store-made : {A E : Type 0} (start mid end : State) (x : A) → doubt mid.is_clean ≤ doubt end.is_clean
     → Reaches {A = A} {E = E} (record start { in_transaction = true }) mid HasNoTable HasFirstRun (Ok x)
     → (HasCleanDisk end → Shows mid end mid.now mid.now false) → HasCleanDisk end → start.now.schema ≡ no_schema → IsNewStore end
-founded start mid end x less fills ends clean blank =
+new-store-made start mid end x less fills ends clean blank =
     made_store mid end (fills.done (omega (arith, clean, less)) (record { inside = refl; has = blank; rows = tt })) (ends clean)
 
 -- a content that is told is that of a store of version 1

@@ -19,6 +19,7 @@ use Rattle.hb_sqlite.proofs.States.{query_open, query_kept, kept_tells, execute_
 clean_before : (old new : State) → doubt old.is_clean ≤ doubt new.is_clean → IsSure new → HasCleanDisk old
 clean_before old new less sure = let c = sure.clean in omega (arith, c, less)
 
+-- what the query for the last run answers
 pub last_row : (old new : State) (r : Result Row Error) → doubt old.is_clean ≤ doubt new.is_clean → (HasCleanDisk new
     → QueriesRow read_run_text [] old new r)
     → Reads old new (λ content row. row ≡ Int (pos content.last_run) ∷ []) r
@@ -48,6 +49,7 @@ last_row old new (Err e) less h = record {
 with_last : ℕ → Content → Content
 with_last run content = record content { last_run = run }
 
+-- what the statement that sets the last run leaves
 pub wrote_run : (old new : State) (run : ℕ) (r : Result ℕ Error) → doubt old.is_clean ≤ doubt new.is_clean → (HasCleanDisk new
     → Executes write_run_text (Int (pos run) ∷ []) old new r)
     → Does old new (λ content count. ⊤) (λ content. record content { last_run = run }) r

@@ -28,8 +28,8 @@ use Rattle.hb_sqlite.specs.StoreSteps.{IsSure, Does}
 use Rattle.hb_sqlite.specs.Within.{Holds, Backed, Placing, DoesWithin}
 use Rattle.hb_sqlite.proofs.Texts.{write_game_text, write_seat_text, write_seat_is, write_seat_plain, seat_terms, cast_null, cast_number}
 use Rattle.hb_sqlite.proofs.States.{IsKept, WasOpen, kept_open, execute_open}
-use Rattle.hb_sqlite.proofs.RunLemmas.{went, same_value}
-use Rattle.hb_sqlite.proofs.GameLemmas.{below, put_after, game_params, writes_game}
+use Rattle.hb_sqlite.proofs.RunLemmas.{not-stopped, same_value}
+use Rattle.hb_sqlite.proofs.GameLemmas.{value_cmp-below, put_after, game_params, writes_game}
 
 -- the rowid after those of rows that are numbered
 next_seat : (n : ℕ) (rows : List Row) → fold (λ (_ : ℤ) r. id_in (rowid r) +ℤ pos 1) (pos n) (numbered_from n rows) ≡ pos (n + length rows)
@@ -43,7 +43,7 @@ put_end n [] columns = ap (λ k. (Int (pos k) ∷ columns) ∷ []) (omega arith)
 put_end n (first ∷ rows) columns =
     let last = n + length {A = Row} (first ∷ rows) in
     let same : last ≡ n + 1 + length rows = omega arith in
-    put_after (Int (pos last) ∷ columns) (Int (pos n) ∷ first) (numbered_from (n + 1) rows) (below n last (omega arith))
+    put_after (Int (pos last) ∷ columns) (Int (pos n) ∷ first) (numbered_from (n + 1) rows) (value_cmp-below n last (omega arith))
     ∙ ap (λ all. (Int (pos n) ∷ first) ∷ all) (ap (λ k. put_row (Int (pos k) ∷ columns) (numbered_from (n + 1) rows)) same
     ∙ put_end (n + 1) rows columns)
 
@@ -73,13 +73,13 @@ writes_seat old new game seat name rows count has seats h =
     let command = Insert 3 (Values seat_terms 4) in
     let w = runs_as write_seat_text params old new store_schema has command write_seat_is write_seat_plain count h in
     let text = statement_of write_seat_text (understood store_schema write_seat_text) in
-    let done = went (subst (λ s. Made old.step_limit (mode_of old) params (record old.now { schema = s }) text None command
+    let done = not-stopped (subst (λ s. Made old.step_limit (mode_of old) params (record old.now { schema = s }) text None command
     (Ok (w.tally, new.now))) has w.changed) in
-    let ended = same_value (went (went done.2).2).2 in
+    let ended = same_value (not-stopped (not-stopped done.2).2).2 in
     let now = ap (λ (p : Tally × Database). p.1) ended in
-    let given = went done.1 in
-    let written = went (went given.2).2 in
-    let counted = went written.2 in
+    let given = not-stopped done.1 in
+    let written = not-stopped (not-stopped given.2).2 in
+    let counted = not-stopped written.2 in
     let source = (Null ∷ params) ∷ [] in
     let edit = edit_of db seats_table [] Chosen 0 source in
     let wrote = subst (λ all. Act.Writes store_schema (mode_of old).keys db (edit_of db seats_table [] Chosen 0 all)
@@ -141,6 +141,7 @@ module _ (old new : State) where
       | inr off ↦ (over off).backed content b
     ]
 
+-- inside a transaction, the row of a game is put behind those that are kept
 pub places_game : (old new : State) (key : Key) (row : GameRow) (r : Result ℕ Error) → doubt old.is_clean ≤ doubt new.is_clean
     → (old.in_transaction ≡ false → IsOver old new)
     → (HasCleanDisk new → IsTrue old.in_transaction → ExecutesInside 0 write_game_text (game_params key row) old new r)
@@ -173,6 +174,7 @@ places_game old new key row (Err e) less over runs = record {
   done = λ sure content p. tt;
 }
 
+-- inside a transaction, a seat is put behind those that are kept
 pub places_seat : (old new : State) (game seat : ℕ) (name : List ℕ) (games : List (Key × GameRow)) (seats : List Row) (r : Result ℕ Error)
     → doubt old.is_clean ≤ doubt new.is_clean
     → (old.in_transaction ≡ false → IsOver old new) → (HasCleanDisk new → IsTrue old.in_transaction
@@ -205,9 +207,10 @@ places_seat old new game seat name games seats (Err e) less over runs = record {
 
 -- ---- from a content to a transaction, and back
 
-pub begins : (s : State) (content : Content) → Tells s content
+-- a transaction begins from the content that the store says
+pub begun-told : (s : State) (content : Content) → Tells s content
     → Placing (record s { in_transaction = true }) content.last_run content.rows (seat_rows 1 content.rows)
-begins s content t = record {
+begun-told s content t = record {
   inside = refl;
   holds = record {
     schema = t.schema;
@@ -219,8 +222,9 @@ begins s content t = record {
   };
 }
 
-pub backs : (s : State) (content : Content) → Tells s content → Backed s content
-backs s content t = record {
+-- a rollback from a store that says a content goes back to that content
+pub back-told : (s : State) (content : Content) → Tells s content → Backed s content
+back-told s content t = record {
   holds = rw t.settled
       (record { schema = t.schema; version = t.version; runs = t.runs; kept = t.games; placed = t.seats });
   few = t.few;
@@ -253,11 +257,11 @@ seats-append id (kept ∷ rows) key row =
     (kept ∷ rows)) 0 row.names))
 
 -- what a commit leaves
-pub commits : (old new : State) (content : Content) (key : Key) (row : GameRow) → Shows old new old.now old.now false
+pub told-committed : (old new : State) (content : Content) (key : Key) (row : GameRow) → Shows old new old.now old.now false
     → Placing old content.last_run (content.rows ++ (key, row) ∷ []) (seat_rows 1 content.rows
     ++ seats_from (1 + length content.rows) 0 row.names)
     → length content.rows + 1 < 2 ^ 63 → Tells new (with_row key row content)
-commits old new content key row shows p few =
+told-committed old new content key row shows p few =
     let h = p.holds in
     record {
       schema = rw shows.now_is h.schema;
@@ -303,12 +307,13 @@ module _ (start mid end : State) (key : Key) (row : GameRow) (last : doubt mid.i
       → Does start end Ids (with_row key row) (done_with {E = E} id)
   wrote id inserts ends = record {
     sure = λ sure. start_sure (inserts.sure (mid_sure (ends sure.clean).was_open sure));
-    found = λ sure content tells. let it = inserts.done (mid_sure (ends sure.clean).was_open sure) content (begins start content tells) in
+    found = λ sure content tells.
+        let it = inserts.done (mid_sure (ends sure.clean).was_open sure) content (begun-told start content tells) in
         (it.0, it.1);
     done = λ sure content tells.
-        let it = inserts.done (mid_sure (ends sure.clean).was_open sure) content (begins start content tells) in
+        let it = inserts.done (mid_sure (ends sure.clean).was_open sure) content (begun-told start content tells) in
         let named : id ≡ 1 + length content.rows = (let e = it.0 in omega (arith, e)) in
-        commits mid end content key row (ends sure.clean) (subst (λ n. Placing mid content.last_run (content.rows ++ (key, row) ∷ [])
+        told-committed mid end content key row (ends sure.clean) (subst (λ n. Placing mid content.last_run (content.rows ++ (key, row) ∷ [])
         (seat_rows 1 content.rows ++ seats_from n 0 row.names)) named it.2)
         (let e = it.0 in let less = it.1 in omega (arith, e, less));
     failed = λ sure content tells. tt;
@@ -322,17 +327,18 @@ module _ (start mid end : State) (key : Key) (row : GameRow) (last : doubt mid.i
     done = λ sure content tells. tt;
     failed = λ sure content tells.
         let b = inserts.backed (mid_sure ((ends sure.clean).was_open sure.is_open) sure) content (backs_begun content
-        (backs start content tells)) in
+        (back-told start content tells)) in
         goes_back mid end content (ends sure.clean) sure.is_open (record { holds = b.holds; few = b.few });
   }
 
   not_committed : {E : Type 0} (id : ℕ) (e : Error) → Inserts (done_with {E = E} id) → IsSure end → (content : Content)
       → Tells start content → FailsToCommit mid end e → Tells end content
   not_committed id e inserts sure content tells (inl fails) =
-      let b = inserts.backed (mid_sure (fails.3.was_open sure.is_open) sure) content (backs_begun content (backs start content tells)) in
+      let mid_is = mid_sure (fails.3.was_open sure.is_open) sure in
+      let b = inserts.backed mid_is content (backs_begun content (back-told start content tells)) in
       goes_back mid end content fails.3 sure.is_open b
   not_committed id e inserts sure content tells (inr over) =
-      let it = inserts.done (mid_sure over.2.0.was_open sure) content (begins start content tells) in
+      let it = inserts.done (mid_sure over.2.0.was_open sure) content (begun-told start content tells) in
       let inside = it.2.inside in
       absurd (let off = over.1 in cc)
 

@@ -24,10 +24,11 @@ use Rattle.hb_sqlite.specs.Facts.{run_row}
 use Rattle.hb_sqlite.proofs.Texts.{read_run_text, write_run_text, run_query, write_run, read_run_is, read_run_plain, write_run_is, write_run_plain, cast_null, cast_number, is_first, has_first}
 
 -- a part that gave a value did not stop on the way
-pub went : {B E R : Type 0} {b : B} {Stops : E → Type 0} → ((stop : E) × Stops stop × (Ok b ≡ Err stop)) ⊎ R → R
-went (inl stopped) = absurd (let e = stopped.2 in cc)
-went (inr on) = on
+pub not-stopped : {B E R : Type 0} {b : B} {Stops : E → Type 0} → ((stop : E) × Stops stop × (Ok b ≡ Err stop)) ⊎ R → R
+not-stopped (inl stopped) = absurd (let e = stopped.2 in cc)
+not-stopped (inr on) = on
 
+-- equal answers have equal values
 pub same_value : {B E : Type 0} {a b : B} → ◌≡◌ {A = Result B E} (Ok a) (Ok b) → a ≡ b
 same_value e = cc
 
@@ -47,6 +48,7 @@ pub record SameButRuns (old new : Trees) : Type 0 where
   pub games : new 2 ≡ old 2
   pub seats : new 4 ≡ old 4
 
+-- the query for the last run shows it
 pub reads_run : (old new : State) (last : ℕ) (row : Row) → old.now.schema ≡ store_schema → old.now.trees 1 ≡ run_row last ∷ []
     → QueriesRow read_run_text [] old new (Ok row)
     → row ≡ Int (pos last) ∷ []
@@ -56,6 +58,7 @@ reads_run old new last row has one h =
     let all : row ∷ got.0 ≡ (Int (pos last) ∷ []) ∷ [] = one_shown (col 1 2 ∷ []) old.now.trees [] [] last (row ∷ got.0) one (got.1 Null) in
     cc
 
+-- what the statement that sets the last run leaves in the tables
 pub writes_run : (old new : State) (last n count : ℕ) → old.now.schema ≡ store_schema → old.now.trees 1 ≡ run_row last ∷ []
     → Executes write_run_text (Int (pos n) ∷ []) old new (Ok count)
     → (new.now.schema ≡ store_schema) × (new.now.trees 1 ≡ run_row n ∷ []) × SameButRuns old.now.trees new.now.trees
@@ -65,11 +68,11 @@ writes_run old new last n count has one h =
     let command = Update 1 (record { lets = []; body = write_run }) in
     let w = runs_as write_run_text params old new store_schema has command write_run_is write_run_plain count h in
     let text = statement_of write_run_text (understood store_schema write_run_text) in
-    let done = went (subst (λ s. Does old.step_limit (mode_of old) params (record old.now { schema = s }) text None command
+    let done = not-stopped (subst (λ s. Does old.step_limit (mode_of old) params (record old.now { schema = s }) text None command
     (Ok (w.tally, new.now))) has w.changed) in
-    let now = ap (λ (p : Tally × Database). p.1) (same_value (went (went done.2).2).2) in
-    let given = went done.1 in
-    let written = went given.2 in
+    let now = ap (λ (p : Tally × Database). p.1) (same_value (not-stopped (not-stopped done.2).2).2) in
+    let given = not-stopped done.1 in
+    let written = not-stopped given.2 in
     let trees : done.0.trees ≡ written.0 = ap (λ (it : Written). it.trees) (same_value written.2) in
     let new_row : Row = Int (pos 1) ∷ Int (pos 1) ∷ Null ∷ Int (pos n) ∷ [] in
     let shown : given.0 ≡ new_row ∷ [] = one_shown (col 1 0 ∷ col 1 0 ∷ lit Null ∷ col 0 0 ∷ []) db params [] last given.0 one

@@ -29,7 +29,7 @@ use Rattle.hb_sqlite.specs.Store.{store_schema, version_table, runs_table, games
 use Rattle.hb_sqlite.specs.Stages.{Stage, Reaches, HasFirstRun, HoldsVersion, IsNewStore, no_schema, with_version, with_runs, with_games}
 use Rattle.hb_sqlite.specs.Facts.{version_row, run_row}
 use Rattle.hb_sqlite.proofs.Texts.{cast_null, cast_number, table_query}
-use Rattle.hb_sqlite.proofs.RunLemmas.{went, same_value}
+use Rattle.hb_sqlite.proofs.RunLemmas.{not-stopped, same_value}
 
 -- a text that makes a table
 record Makes (s : Schema) (text : List ℕ) (table : Table) : Type 0 where
@@ -49,8 +49,8 @@ creates : (old new : State) (s : Schema) (text : List ℕ) (table : Table) (coun
 creates old new s text table count has makes h =
     let w = subst (λ t. Writes old new None CreateTable t [] count) makes.whole
     (runs_as text [] old new s has CreateTable makes.command makes.plain count h) in
-    let all = went w.changed in
-    let first = went all.1 in
+    let all = not-stopped w.changed in
+    let first = not-stopped all.1 in
     let made = first.1 in
     let both : Ok made.table ≡ Ok table = sym made.defined ∙ makes.defined in
     let same : made.table ≡ table = cc in
@@ -64,18 +64,22 @@ creates old new s text table count has makes h =
           (subst (λ (s : Schema). KeepsRows s.tables old.now.trees first.0.trees) has made.others);
     }
 
+-- the statement that makes the table `version`
 abbrev pub create_version : List ℕ
 create_version = codes "CREATE TABLE version (n INTEGER NOT NULL) STRICT"
 
+-- the statement that makes the table `runs`
 abbrev pub create_runs : List ℕ
 create_runs = codes "CREATE TABLE runs (id INTEGER PRIMARY KEY, last INTEGER NOT NULL CHECK (last >= 0)) STRICT"
 
+-- the statement that makes the table `games`
 abbrev pub create_games : List ℕ
 create_games =
     codes "CREATE TABLE games (id INTEGER PRIMARY KEY, run INTEGER NOT NULL, room INTEGER NOT NULL,\n"
     ++ (codes "  serial INTEGER NOT NULL, how INTEGER NOT NULL, score INTEGER NOT NULL, body TEXT NOT NULL,\n"
     ++ codes "  UNIQUE (run, room, serial)) STRICT")
 
+-- the statement that makes the table `seats`
 abbrev pub create_seats : List ℕ
 create_seats =
     codes "CREATE TABLE seats (game INTEGER NOT NULL REFERENCES games (id), seat INTEGER NOT NULL,\n"
@@ -100,9 +104,11 @@ makes_seats = record { command = refl; whole = refl; defined = refl; plain = (re
 whole_schema : created with_games (record seats_table { tree = 0 }) ≡ store_schema
 whole_schema = refl
 
+-- the statement that puts the row of `version`
 abbrev pub first_version : List ℕ
 first_version = codes "INSERT INTO version (n) VALUES (1)"
 
+-- the statement that puts the row of `runs`
 abbrev pub first_run : List ℕ
 first_run = codes "INSERT INTO runs (id, last) VALUES (1, 0)"
 
@@ -128,9 +134,11 @@ first_run_plain : IsPlain (understood store_schema first_run)
 unfolding understood everything
 first_run_plain = (refl, refl)
 
+-- the query for the version
 abbrev pub read_version_text : List ℕ
 read_version_text = codes "SELECT n FROM version"
 
+-- how that query is read
 pub read_version_is : (command_of (understood store_schema read_version_text)
     ≡ Select (record { lets = []; body = table_query 0 [] (col 1 1 ∷ []) [] }) (codes "n" ∷ []))
     × (reads_listing store_schema read_version_text ≡ false)
@@ -150,12 +158,12 @@ puts_version old new count has none h =
     let command = Insert 0 (Values version_terms 2) in
     let w = runs_as first_version [] old new store_schema has command first_version_is first_version_plain count h in
     let text = statement_of first_version (understood store_schema first_version) in
-    let done = went (subst (λ s. Does old.step_limit (mode_of old) [] (record old.now { schema = s }) text None command
+    let done = not-stopped (subst (λ s. Does old.step_limit (mode_of old) [] (record old.now { schema = s }) text None command
     (Ok (w.tally, new.now))) has w.changed) in
-    let now = ap (λ (p : Tally × Database). p.1) (same_value (went (went done.2).2).2) in
-    let given = went done.1 in
-    let written = went (went given.2).2 in
-    let counted = went written.2 in
+    let now = ap (λ (p : Tally × Database). p.1) (same_value (not-stopped (not-stopped done.2).2).2) in
+    let given = not-stopped done.1 in
+    let written = not-stopped (not-stopped given.2).2 in
+    let counted = not-stopped written.2 in
     let edit = edit_of db version_table [] Chosen 0 ((Null ∷ Int (pos 1) ∷ []) ∷ []) in
     let wrote = subst (λ all. Act.Writes store_schema (mode_of old).keys db (edit_of db version_table [] Chosen 0 all)
     (Ok written.0)) given.1.1 written.1 in
@@ -178,12 +186,12 @@ puts_run old new count has none h =
     let command = Insert 1 (Values run_terms 3) in
     let w = runs_as first_run [] old new store_schema has command first_run_is first_run_plain count h in
     let text = statement_of first_run (understood store_schema first_run) in
-    let done = went (subst (λ s. Does old.step_limit (mode_of old) [] (record old.now { schema = s }) text None command
+    let done = not-stopped (subst (λ s. Does old.step_limit (mode_of old) [] (record old.now { schema = s }) text None command
     (Ok (w.tally, new.now))) has w.changed) in
-    let now = ap (λ (p : Tally × Database). p.1) (same_value (went (went done.2).2).2) in
-    let given = went done.1 in
-    let written = went (went given.2).2 in
-    let counted = went written.2 in
+    let now = ap (λ (p : Tally × Database). p.1) (same_value (not-stopped (not-stopped done.2).2).2) in
+    let given = not-stopped done.1 in
+    let written = not-stopped (not-stopped given.2).2 in
+    let counted = not-stopped written.2 in
     let edit = edit_of db runs_table [] Chosen 0 ((Int (pos 1) ∷ Null ∷ Int (pos 0) ∷ []) ∷ []) in
     let wrote = subst (λ all. Act.Writes store_schema (mode_of old).keys db (edit_of db runs_table [] Chosen 0 all)
     (Ok written.0)) given.1.1 written.1 in
@@ -301,15 +309,15 @@ made_store old new st shows = record {
 }
 
 -- one statement leads from a stage to the next
-pub reaches : (old new : State) (sql : List ℕ) (Before After : State → Type 0) (r : Result ℕ Error)
+pub to_stage : (old new : State) (sql : List ℕ) (Before After : State → Type 0) (r : Result ℕ Error)
     → doubt old.is_clean ≤ doubt new.is_clean
     → ((count : ℕ) → Before old → ExecutesInside 0 sql [] old new (Ok count) → After new) → (Before old → IsTrue old.in_transaction)
     → (HasCleanDisk new → IsTrue old.in_transaction → ExecutesInside 0 sql [] old new r) → Reaches old new Before After r
-reaches old new sql Before After (Ok count) less step inside runs = record {
+to_stage old new sql Before After (Ok count) less step inside runs = record {
   clean = λ clean. omega (arith, clean, less);
   done = λ clean before. step count before (runs clean (inside before));
 }
-reaches old new sql Before After (Err e) less step inside runs = record {
+to_stage old new sql Before After (Err e) less step inside runs = record {
   clean = λ clean. omega (arith, clean, less);
   done = λ clean before. tt;
 }
@@ -331,6 +339,7 @@ reaches_err old new Before After (Err e) is clean = record { clean = clean; done
 
 -- ---- the version
 
+-- that query is a plain one
 pub read_version_plain : IsPlain (understood store_schema read_version_text)
 unfolding understood everything
 read_version_plain = (refl, refl)

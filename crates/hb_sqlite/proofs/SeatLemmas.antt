@@ -12,6 +12,7 @@ use Rattle.hb_sqlite.specs.Facts.{seats_from, seat_rows, numbered_from}
 use Rattle.hb_sqlite.proofs.Texts.{equals}
 use Rattle.hb_sqlite.proofs.SelectLemmas.{matching, same_number}
 
+-- the filter: game and seat are these
 abbrev pub of_seat : List Term
 of_seat = equals (col 1 1) (col 0 0) ∷ equals (col 1 2) (col 0 1) ∷ []
 

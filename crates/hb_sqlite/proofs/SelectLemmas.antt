@@ -64,6 +64,7 @@ shows_one tree filter shown db params row all one a =
 abbrev pub matching : List Term → Row → List Row → List Env
 matching filter params rows = matches (λ _. rows) filter (inner 0 end) (params ∷ [])
 
+-- the filter: the game has the id
 abbrev pub with_id : List Term
 with_id = equals (col 1 0) (col 0 0) ∷ []
 
@@ -77,6 +78,7 @@ step : (filter : List Term) (params r : Row) (rs : List Row) (b : Bool) → hold
 step filter params r rs true h = rw h refl
 step filter params r rs false h = rw h refl
 
+-- no game has an id below the first one
 pub no_game : (id from : ℕ) (rows : List (Key × GameRow)) → id < from → matching with_id (Int (pos id) ∷ []) (game_rows from rows) ≡ []
 no_game id from [] low = refl
 no_game id from (kept ∷ rows) low =
@@ -84,6 +86,7 @@ no_game id from (kept ∷ rows) low =
     step [] (Int (pos id) ∷ []) (game_row from kept.0 kept.1) (game_rows (from + 1) rows) false (same_number from id ∙ other)
     ∙ no_game id (from + 1) rows (omega arith)
 
+-- the game with an id is the one at its place
 pub one_game : (id from : ℕ) (rows : List (Key × GameRow)) → from ≤ id
     → matching with_id (Int (pos id) ∷ []) (game_rows from rows) ≡ game_match id (slice_get rows (id - from))
 one_game id from [] low = refl

@@ -13,6 +13,7 @@ use Rattle.hb_sqlite.specs.StoreSteps.{Reads}
 use Rattle.hb_sqlite.specs.Within.{Placing, DoesWithin}
 use Rattle.hb_sqlite.proofs.KeyLemmas.{first_id, one_of}
 
+-- one item more of a list
 pub take_more : {X : Type 0} (xs : List X) (k : ℕ) (x : X) → slice_get xs k ≡ Some x → take (suc k) xs ≡ take k xs ++ x ∷ []
 take_more [] k x h = absurd cc
 take_more (y ∷ xs) zero x h = let same : y ≡ x = cc in ap (λ z. z ∷ []) same
@@ -23,6 +24,7 @@ one_more : (row : Option GameRow) (seat : ℕ) (name : List ℕ) → Some name �
 one_more None seat name h = absurd cc
 one_more (Some row) seat name h = take_more row.names seat name (sym h)
 
+-- one name more was read
 pub more_names : {E F : Type 0} (a b d : State) (game seat : ℕ) (names new : List (List ℕ)) (name : List ℕ)
     → Reads {E = E} a b (λ content all. all ≡ take seat (names_in (row_of_id content game))) (Ok names)
     → Reads {E = F} b d (λ content n. n ≡ seat_name seat (row_of_id content game)) (Ok (Some name)) → new ≡ names ++ name ∷ []
@@ -48,6 +50,7 @@ seats_more game s (suc k) (first ∷ names) name h =
     ap (λ all. seat_cells game s first ∷ all) (seats_more game (s + 1) k names name h ∙ ap (λ n. seats_from game (s + 1) (take k names)
     ++ seat_cells game n name ∷ []) (omega arith))
 
+-- one seat more was written
 pub more_seats : {E F A : Type 0} (a b d : State) (game k : ℕ) (names : List (List ℕ)) (name : List ℕ) (it : Unit {0}) (count : A)
     → slice_get names k ≡ Some name
     → ((games : List (Key × GameRow)) (seats : List Row)
@@ -74,6 +77,7 @@ more_seats a b d game k names name it count here first second games seats =
           (two.done sure content (one.done (two.sure sure) content p));
     }
 
+-- the first row under a key has the id of its game
 pub key_id : {E F A : Type 0} (items : A → List Row) (old new : State) (key : Key) (rows : A) (r : Result (Option ℕ) F)
     → Reads {E = E} old new (λ content all. IsPermutation (map id_row (ids_from 1 key content.rows)) (items all)) (Ok rows)
     → ((ids : List ℕ) → IsPermutation (map id_row ids) (items rows) → IfOk r (λ id. id ≡ slice_get ids 0))
@@ -91,6 +95,7 @@ key_id items old new key rows (Err why) first only = record {
   failed = first.done;
 }
 
+-- an only row has the only id
 pub only_row : (ids : List ℕ) (rows : List Row) (row : Row) (id : ℕ) → IsPermutation (map id_row ids) rows → length rows ≡ 1
     → slice_get rows 0 ≡ Some row → column row 0 ≡ Int (pos id) → slice_get ids 0 ≡ Some id
 only_row ids [] row id h len here is = absurd (omega (arith, len))
@@ -138,10 +143,12 @@ module _ (a b d : State) (key : Key) (row : GameRow) (id : ℕ) where
     done = λ sure content p. tt;
   }
 
+-- a step inside a transaction gave a value
 pub gave_in : {E F A B : Type 0} (a b : State) (P : Content → Type 0) (Q : Content → A → Type 0) (R : Content → B
     → Type 0) (x : A) (f : F) → DoesWithin {E = E} a b P Q (Ok x) → DoesWithin {A = B} a b P R (Err f)
 gave_in a b P Q R x f h = record { sure = h.sure; backed = h.backed; done = λ sure content p. tt }
 
+-- a step inside a transaction failed after one that did not
 pub failed_after : {E F G A B D : Type 0} (a b d : State) (P T : Content → Type 0) (Q : Content → A → Type 0) (R : Content → B
     → Type 0) (S : Content → D → Type 0) (x : A) (e : F) (r : Result D G)
     → IsErr r → DoesWithin {E = E} a b P Q (Ok x) → DoesWithin {A = B} b d T R (Err e) → DoesWithin {A = D} a d P S r

@@ -1,9 +1,9 @@
 use Rattle.sqlite.specs.Held.{state}
 use Rattle.hb_sqlite.specs.Stages.{HasVersion, HasRuns}
-use Rattle.hb_sqlite.proofs.SchemaLemmas.{reaches, stage_runs}
+use Rattle.hb_sqlite.proofs.SchemaLemmas.{to_stage, stage_runs}
 use Rattle.hb_sqlite.proofs.opening.create_runs.Goals as goal
 
 pub returns-clause-made : goal.returns-clause-made
 returns-clause-made g c =
-    reaches (state g.S.Store c.args.tx.now.conn.now) (state g.S.Store c.execute.new.self.conn.now) _ HasVersion HasRuns c.execute.result
+    to_stage (state g.S.Store c.args.tx.now.conn.now) (state g.S.Store c.execute.new.self.conn.now) _ HasVersion HasRuns c.execute.result
     c.execute.ensures.survives.clean (λ count before h. stage_runs _ _ count before h) (λ before. before.inside) c.execute.ensures.runs

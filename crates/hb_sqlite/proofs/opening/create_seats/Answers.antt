@@ -1,9 +1,9 @@
 use Rattle.sqlite.specs.Held.{state}
 use Rattle.hb_sqlite.specs.Stages.{HasGames, HasSeats}
-use Rattle.hb_sqlite.proofs.SchemaLemmas.{reaches, stage_seats}
+use Rattle.hb_sqlite.proofs.SchemaLemmas.{to_stage, stage_seats}
 use Rattle.hb_sqlite.proofs.opening.create_seats.Goals as goal
 
 pub returns-clause-made : goal.returns-clause-made
 returns-clause-made g c =
-    reaches (state g.S.Store c.args.tx.now.conn.now) (state g.S.Store c.execute.new.self.conn.now) _ HasGames HasSeats c.execute.result
+    to_stage (state g.S.Store c.args.tx.now.conn.now) (state g.S.Store c.execute.new.self.conn.now) _ HasGames HasSeats c.execute.result
     c.execute.ensures.survives.clean (λ count before h. stage_seats _ _ count before h) (λ before. before.inside) c.execute.ensures.runs

@@ -1,10 +1,10 @@
 use Rattle.sqlite.specs.Held.{state}
 use Rattle.hb_sqlite.specs.Stages.{HasFirstVersion, HasFirstRun}
-use Rattle.hb_sqlite.proofs.SchemaLemmas.{reaches, stage_first_run}
+use Rattle.hb_sqlite.proofs.SchemaLemmas.{to_stage, stage_first_run}
 use Rattle.hb_sqlite.proofs.opening.insert_run.Goals as goal
 
 pub returns-clause-made : goal.returns-clause-made
 returns-clause-made g c =
-    reaches (state g.S.Store c.args.tx.now.conn.now) (state g.S.Store c.execute.new.self.conn.now) _ HasFirstVersion HasFirstRun
+    to_stage (state g.S.Store c.args.tx.now.conn.now) (state g.S.Store c.execute.new.self.conn.now) _ HasFirstVersion HasFirstRun
     c.execute.result
     c.execute.ensures.survives.clean (λ count before h. stage_first_run _ _ count before h) (λ before. before.inside) c.execute.ensures.runs

@@ -1,7 +1,7 @@
 use Rattle.std.proofs.Common.{◌≡◌, arith, rules}
 use Rattle.sqlite.specs.Held.{state}
 use Rattle.sqlite.specs.State.{HasCleanDisk}
-use Rattle.hb_sqlite.proofs.OpenLemmas.{founded}
+use Rattle.hb_sqlite.proofs.OpenLemmas.{new-store-made}
 use Rattle.hb_sqlite.proofs.opening.make_tables.Goals as goal
 
 pub returns : goal.returns
@@ -14,6 +14,6 @@ returns g c =
     λ clean. fills.clean (omega (arith, clean, less)) in
     record {
       clean = rw same at early;
-      made = rw same at (founded (state g.S.Store c.args.conn.now) (state g.S.Store c.fill.new.tx.conn.now) (state g.S.Store end) tt
+      made = rw same at (new-store-made (state g.S.Store c.args.conn.now) (state g.S.Store c.fill.new.tx.conn.now) (state g.S.Store end) tt
           less fills (λ clean. (c.in_ok-commit.ensures.ok clean).1));
     }

@@ -1,10 +1,10 @@
 use Rattle.sqlite.specs.Held.{state}
-use Rattle.hb_sqlite.proofs.Gets.{round, game_found}
+use Rattle.hb_sqlite.proofs.Gets.{to_z-of, game_found}
 use Rattle.hb_sqlite.proofs.reading.game_rows.Goals as goal
 
 pub returns : goal.returns
 returns g c =
-    let number = round c.stored.result c.args.id c.stored.ensures c.requires in
+    let number = to_z-of c.stored.result c.args.id c.stored.ensures c.requires in
     game_found (λ rows. rows.items) (state g.S.Store c.args.conn.now) (state g.S.Store c.query_all.new.self) c.args.id c.query_all.result
     c.query_all.ensures.survives.clean
     (λ clean. rw (c.params-to_sql.ensures, number) at (c.query_all.ensures.ok clean)) (λ clean. rw (c.params-to_sql.ensures, number) at

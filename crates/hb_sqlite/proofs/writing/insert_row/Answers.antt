@@ -1,11 +1,11 @@
 use Rattle.sqlite.specs.Held.{state}
-use Rattle.hb_sqlite.proofs.Gets.{round}
+use Rattle.hb_sqlite.proofs.Gets.{to_z-of}
 use Rattle.hb_sqlite.proofs.PutLemmas.{places_game}
 use Rattle.hb_sqlite.proofs.writing.insert_row.Goals as goal
 
 pub returns-clause-placed : goal.returns-clause-placed
 returns-clause-placed g c =
-    let number = round c.stored.result c.args.key.now.run c.stored.ensures c.requires in
+    let number = to_z-of c.stored.result c.args.key.now.run c.stored.ensures c.requires in
     places_game (state g.S.Store c.args.tx.now.conn.now) (state g.S.Store c.execute.new.self.conn.now) c.args.key.now c.args.row.now
     c.execute.result c.execute.ensures.survives.clean
     (λ off. let same = (c.execute.ensures.ended off).1 in rw same (record { was_open = λ it. it; backed = λ content b. b }))
