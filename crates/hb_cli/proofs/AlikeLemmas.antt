@@ -1,7 +1,7 @@
 -- Why are replays that a command's seat can't tell apart written alike?
 use Rattle.std.proofs.Common.{◌≡◌, ℕ, List, ap}
 use Rattle.hb_rules.specs.Observed.{Observed}
-use Rattle.hb_view.specs.Standing.{standing_text}
+use Rattle.hb_game_lines.specs.Standing.{standing_text}
 use Rattle.hb_cli.specs.declared.commands.Command.TheVariants.{Watch, Look, Check, Copy}
 use Rattle.hb_cli.specs.Alike.{AlikeIsWrittenAlike}
 use Rattle.hb_cli.specs.Outputs.{output, watch_text}

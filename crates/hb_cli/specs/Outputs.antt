@@ -7,7 +7,7 @@ use Rattle.hb_rules.specs.Setup.{Position}
 use Rattle.hb_replay.specs.Canonical.{canonical_text}
 use Rattle.hb_replay.specs.Contents.{Contents}
 use Rattle.hb_wire.specs.Lines.{event_lines, game_line}
-use Rattle.hb_view.specs.Standing.{standing_text}
+use Rattle.hb_game_lines.specs.Standing.{standing_text}
 use Rattle.hb_cli.specs.declared.commands.Command.{Command}
 use Rattle.hb_cli.specs.declared.commands.Command.TheVariants.{Watch, Look, Check, Copy}
 

@@ -3,16 +3,16 @@
 ghost use Rattle.std.specs.Prelude.{◌≡◌, ◌++◌, ◌<◌, ◌≤◌, ◌⊎◌, codes, length, map, string_bytes, IfErr, IfOk, IsFalse, IsTrue};
 ghost use Rattle.hb_replay.specs.Canonical.{canonical_text};
 ghost use Rattle.hb_cli.specs.Outputs.{after_first, check_text as text_of_check, has_view as has_view_of, only as only_of, output as output_of, seen_by, watch_text as text_of_watch};
-ghost use Rattle.hb_view.specs.Standing.{standing_text};
+ghost use Rattle.hb_game_lines.specs.Standing.{standing_text};
 
 use crate::commands::Command;
 use crate::status::Stop;
+use hb_game_lines::{push_events, push_game, push_standing};
 use hb_io::{Bytes, Text};
 use hb_replay::{Replay, write};
 use hb_rules::{EndHow, MOST_PLAYERS};
 use hb_sight::Blind;
 use hb_turns::Game;
-use hb_view::{push_events, push_game, push_standing};
 use std::alloc::{AllocError, Global};
 
 /// The blind set of one seat.

@@ -1,13 +1,14 @@
-//! Do the callers at the heads of hb_turns, hb_sight, hb_empathy and hb_view do what they say?
+//! Do the callers at the heads of hb_turns, hb_sight, hb_empathy and hb_game_lines do what they
+//! say?
 
 use crate::games::{cards, color, discard, in_order, play, rank};
 use hb_empathy::hand_sets;
+use hb_game_lines::{hand_line, push_events, push_game, push_standing, state_line};
 use hb_io::{Bytes, Text};
 use hb_rules::{Action, Clue, Event, Identity, Options, Variant};
 use hb_sight::{Blind, next_events};
 use hb_suits::variant;
 use hb_turns::Game;
-use hb_view::{hand_line, push_events, push_game, push_standing, state_line};
 use std::alloc::{AllocError, Global};
 use std::test::Fail;
 
