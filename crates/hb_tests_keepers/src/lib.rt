@@ -1,8 +1,9 @@
-//! Do the keepers answer as the worked calls say, and both alike?
+//! Do the keepers answer as the worked calls say, and what does a store answer over files and rows
+//! that others have written?
 #![tactic(auto)]
 
 #[cfg(test)]
-mod alike;
+mod calls;
 #[cfg(test)]
 mod crash;
 #[cfg(test)]
