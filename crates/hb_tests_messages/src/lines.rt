@@ -8,6 +8,19 @@ use hb_wire::{Role, State, WireLine, print_line};
 use std::alloc::{AllocError, Global};
 use std::test::Fail;
 
+/// The first of these lines that is not printed as its text.
+fn first_wrong(
+    alloc: Global,
+    cases: &[(WireLine, &'static str)],
+) -> Result<Option<&'static str>, AllocError> {
+    for (line, want) in cases {
+        if print_line(alloc, line)?.as_str() != *want {
+            return Ok(Some(*want));
+        }
+    }
+    Ok(None)
+}
+
 /// A refusal.
 fn refused(code: u8, number: u32, review: Option<u8>, rule: Option<u8>) -> WireLine {
     WireLine::Refused {
@@ -52,8 +65,8 @@ fn answers_have_their_texts(rt: HostRuntime) -> Result<(), Fail> {
             r#"refused {"code":24,"number":5,"review":2,"rule":1}"#,
         ),
         (
-            refused(24, 8, Some(3), None),
-            r#"refused {"code":24,"number":8,"review":3}"#,
+            refused(24, 9, Some(1), None),
+            r#"refused {"code":24,"number":9,"review":1}"#,
         ),
         (
             WireLine::Refused {
@@ -66,9 +79,7 @@ fn answers_have_their_texts(rt: HostRuntime) -> Result<(), Fail> {
             r#"refused {"code":1,"number":11,"table":2}"#,
         ),
     ];
-    for (line, want) in cases {
-        assert_eq!(rt; print_line(alloc, &line)?.as_str(), want, "{want}");
-    }
+    assert_eq!(rt; first_wrong(alloc, &cases)?, None);
     Ok(())
 }
 
@@ -129,9 +140,7 @@ fn what_happens_at_a_table_has_its_text(rt: HostRuntime) -> Result<(), Fail> {
         ),
         (WireLine::Closed, "closed {}"),
     ];
-    for (line, want) in cases {
-        assert_eq!(rt; print_line(alloc, &line)?.as_str(), want, "{want}");
-    }
+    assert_eq!(rt; first_wrong(alloc, &cases)?, None);
     Ok(())
 }
 
@@ -220,8 +229,6 @@ fn the_lines_of_a_game_have_their_texts(rt: HostRuntime) -> Result<(), Fail> {
             r#"hand {"seat":0,"sets":[[1,"a1a2"],[10,"e5"]]}"#,
         ),
     ];
-    for (line, want) in cases {
-        assert_eq!(rt; print_line(alloc, &line)?.as_str(), want, "{want}");
-    }
+    assert_eq!(rt; first_wrong(alloc, &cases)?, None);
     Ok(())
 }

@@ -5,6 +5,11 @@ use hb_request::{Ask, FieldName, MESSAGE_LIMIT, Request, WireError, parse, print
 use std::alloc::{AllocError, Global};
 use std::test::Fail;
 
+/// Why the message is no request; none if it is one.
+fn refusal(alloc: Global, text: &str) -> Option<WireError> {
+    parse(alloc, text).err()
+}
+
 #[test]
 fn a_message_that_is_no_request_is_told_why(rt: HostRuntime) -> Result<(), Fail> {
     let cases = [
@@ -19,7 +24,7 @@ fn a_message_that_is_no_request_is_told_why(rt: HostRuntime) -> Result<(), Fail>
         (r#"look {"room":1}}"#, WireError::Json),
     ];
     for (text, want) in cases {
-        assert_eq!(rt; parse(rt.alloc(), text).err(), Some(want), "{text}");
+        assert_eq!(rt; refusal(rt.alloc(), text), Some(want), "{text}");
     }
     Ok(())
 }
@@ -44,7 +49,7 @@ fn the_first_wrong_field_is_named(rt: HostRuntime) -> Result<(), Fail> {
     ];
     for (text, want) in cases {
         assert_eq!(rt;
-            parse(alloc, text).err(),
+            refusal(alloc, text),
             Some(WireError::Field(want)),
             "{text}"
         );
@@ -95,7 +100,7 @@ fn the_first_wrong_field_is_named(rt: HostRuntime) -> Result<(), Fail> {
     ];
     for (word, members, want) in cases {
         let text = at_table(alloc, word, members)?;
-        let found = parse(alloc, text.as_str()).err();
+        let found = refusal(alloc, text.as_str());
         assert_eq!(rt; found, Some(WireError::Field(want)), "{word} {members}");
     }
     Ok(())
@@ -175,11 +180,8 @@ fn a_message_may_have_16_384_bytes(rt: HostRuntime) -> Result<(), Fail> {
     let alloc = rt.alloc();
     let longest = hello_of(alloc, MESSAGE_LIMIT)?;
     assert_eq!(rt; longest.len(), 16_384);
-    assert!(rt; parse(alloc, longest.as_str()).is_ok());
+    assert!(rt; refusal(alloc, longest.as_str()).is_none());
     let longer = hello_of(alloc, MESSAGE_LIMIT + 1)?;
-    assert_eq!(rt;
-        parse(alloc, longer.as_str()).err(),
-        Some(WireError::TooLong)
-    );
+    assert!(rt; refusal(alloc, longer.as_str()) == Some(WireError::TooLong));
     Ok(())
 }
