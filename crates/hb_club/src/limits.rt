@@ -1,4 +1,4 @@
-//! The limits of rooms and of the lobby, each named once. All are this project's own.
+//! Which limits have rooms and the lobby? Each is named once. All are this project's own.
 
 /// With this many kept numbers at a table, a member's further commands are refused there, except
 /// those that [`MOST_KEPT_NUMBERS`] is for.

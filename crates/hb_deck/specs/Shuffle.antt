@@ -1,4 +1,4 @@
--- The order that a seed and a stream give a list: the shuffle of `rand` over the words of
+-- In which order do a seed and a stream put a list? It is the shuffle of `rand` over the words of
 -- `rand_chacha`.
 use Rattle.std.specs.Prelude.{ℕ, List}
 use Rattle.rand_core.specs.Stream.{Stream}

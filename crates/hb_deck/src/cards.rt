@@ -1,4 +1,4 @@
-//! All cards of a variant in order.
+//! Which cards has a variant, in order?
 
 ghost use Rattle.std.specs.Prelude.{◌≡◌, ◌<◌, ◌++◌, IfOk, OnOk, replicate};
 ghost use Rattle.hb_rules.specs.Cards.{cards, copies, suit_cards};

@@ -1,4 +1,4 @@
-//! Lists of cards, and which of them are a deck.
+//! Which lists of cards are a deck?
 
 ghost use Rattle.std.specs.Prelude.{◌≡◌, ℕ, ◌<◌, ◌↔◌, List, All, IsTrue};
 ghost use Rattle.hb_rules.specs.Cards.{IsDeck, copies, count_of, identity};

@@ -1,4 +1,4 @@
-//! The deck that a seed gives.
+//! Which deck does a seed give?
 
 ghost use Rattle.std.specs.Prelude.{◌≡◌, IfOk, IsPermutation};
 ghost use Rattle.hb_rules.specs.Cards.{cards, IsDeck};

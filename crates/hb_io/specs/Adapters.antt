@@ -1,4 +1,4 @@
--- What the adapters over std's readers and writers have inside.
+-- What do the adapters over std's readers and writers have inside?
 use Rattle.std.specs.Prelude.{ℕ}
 use Rattle.hb_io.specs.declared.adapters.StdSource.{StdSource}
 use Rattle.hb_io.specs.declared.adapters.StdSink.{StdSink}

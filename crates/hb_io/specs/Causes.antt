@@ -1,4 +1,4 @@
--- What a count of faults says of a call.
+-- What does a count of faults say of a call?
 use Rattle.std.specs.Prelude.{◌≡◌, ℕ, ◌+◌, ◌-◌, ◌^◌, ◌≤◌, min, Result, OnOk, OnErr}
 
 -- one more, up to the largest u64

@@ -1,4 +1,4 @@
--- Sources and sinks in memory.
+-- What do sources and sinks in memory hold?
 use Rattle.std.specs.Prelude.{ℕ, List, Contains}
 use Rattle.hb_io.specs.Causes.{next_count}
 

@@ -1,4 +1,4 @@
--- The spelling of names, and how a `Name` holds one.
+-- How is a name spelled, and how does a `Name` hold one?
 use Rattle.std.specs.Prelude.{◌≡◌, ℕ, ◌-◌, ◌<◌, ◌≤◌, ◌⊎◌, List, ◌++◌, length, take, replicate, All, Contains, codes}
 use Rattle.std.specs.Char.{IsAsciiAlphanumeric}
 use Rattle.hb_io.specs.declared.names.TheConstants.{NAME_LIMIT}

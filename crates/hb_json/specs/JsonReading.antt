@@ -1,4 +1,4 @@
--- What is there in a JSON value, and which whole number it is.
+-- Is something there in a JSON value, and which whole number is it?
 use Rattle.std.specs.Prelude.{ℕ, nat_lt, if◌then◌else◌, Option, None, Some, option_and_then}
 use Rattle.serde_json.specs.Data.{Data, null, boolean, number, string, array, object}
 use Rattle.serde_json.specs.Find.{as_number, as_u64}

@@ -1,4 +1,4 @@
--- A line of a word and a value.
+-- What is a line of a word and a value?
 use Rattle.std.specs.Prelude.{ℕ, List, ◌∷◌, ◌++◌}
 use Rattle.serde_json.specs.Data.{Data}
 use Rattle.serde_json.specs.Written.{compact_text}

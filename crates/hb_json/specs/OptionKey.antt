@@ -1,4 +1,4 @@
--- The options of a game that are understood, by their names (after Hanabi Live).
+-- Which options of a game are understood, and by which names (after Hanabi Live)?
 use Rattle.std.specs.Prelude.{ℕ, List, codes, if◌then◌else◌, Bool, false, not, ◌&&◌, Option, None, Some, bytes_eq}
 use Rattle.std.specs.List.{list_any}
 use Rattle.serde_json.specs.Data.{Members, no_members, member}

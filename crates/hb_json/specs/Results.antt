@@ -1,4 +1,4 @@
--- One step after another, up to the first fault.
+-- How do steps go on up to the first fault?
 use Rattle.std.specs.Prelude.{Result, Option, None, Some, Bool, true, false}
 use Rattle.std.specs.declared.result.Result.TheVariants.{Ok, Err}
 

@@ -1,4 +1,4 @@
--- JSON data that replays and messages have in common. `put` keeps the keys of an object in byte
+-- Which JSON data do replays and messages have in common? `put` keeps the keys of an object in byte
 -- order.
 use Rattle.std.specs.Prelude.{ℕ, List, codes, map, Bool, true, false, not, ◌==◌, Option, None, Some}
 use Rattle.serde_json.specs.Data.{Data, null, number, unsigned, string, boolean, array, object, Members, no_members, member, put}

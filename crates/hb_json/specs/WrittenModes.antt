@@ -1,4 +1,5 @@
--- What an object of options says of a game: of each option its type, its default and its range.
+-- What does an object of options say of a game? Each option has its type, its default and its range
+-- here.
 use Rattle.std.specs.Prelude.{◌≡◌, ◌≤◌, ℕ, List, codes, Result, nat_lt, if◌then◌else◌, Bool, true, false, ◌&&◌, Option, None, Some}
 use Rattle.std.specs.declared.result.Result.TheVariants.{Ok, Err}
 use Rattle.serde_json.specs.Data.{Data}

@@ -1,4 +1,4 @@
--- What a keeper contains, and what each call answers and leaves if it does not fail.
+-- What does a keeper contain, and what does each call answer and leave if it does not fail?
 use Rattle.std.specs.Prelude.{ℕ, ◌+◌, ◌-◌, ◌^◌, ◌≤◌, Bool, false, ◌&&◌, ◌==◌, if◌then◌else◌, bytes_eq, nat_lt, List, [], ◌∷◌, ◌++◌, length, slice_get, Option, Some, None, Result, Ok, Err}
 use Rattle.std.specs.List.{list_any}
 use Rattle.std.specs.Option.{option_map}

@@ -1,5 +1,5 @@
 -- Internal: no public clause cites this.
--- The games of each member, listed as they are kept, and the ids of the keys.
+-- How are the games of a member listed as they are kept, and the ids of the keys?
 use Rattle.std.specs.Prelude.{◌≡◌, ℕ, ◌+◌, ◌-◌, ◌≤◌, ◌⊎◌, Bool, true, false, ◌==◌, if◌then◌else◌, bytes_eq, unwrap_or, List, [], ◌∷◌, ◌++◌, length, take, slice_get, Option, Some, None}
 use Rattle.std.specs.Option.{option_map_or}
 use Rattle.std.specs.declared.hash.FoldHasher.{FoldHasher}

@@ -1,4 +1,4 @@
--- The keeper in memory, which tells its content and its plan, and its calls.
+-- What does the keeper in memory tell of its content and its plan, and what do its calls do?
 use Rattle.std.specs.Prelude.{◌≡◌, ◌≢◌, ◌⊎◌, ◌≤◌, ℕ, List, Option, Some, None, Result, Err}
 use Rattle.hb_io.specs.Causes.{next_count}
 use Rattle.hb_keeper.specs.declared.errors.KeepError.{KeepError}

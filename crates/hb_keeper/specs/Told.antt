@@ -1,4 +1,4 @@
--- What an answer says of the keeper before and after the call. A keeper may tell its content and
+-- What does an answer say of a keeper before and after the call? A keeper may tell its content and
 -- its plan.
 use Rattle.std.specs.Prelude.{◌≡◌, ◌≢◌, ℕ, ◌≤◌, ◌⊎◌, true, is_some, List, Option, Some, None, Result, Err}
 use Rattle.hb_io.specs.Causes.{Rose}

@@ -1,7 +1,6 @@
 -- Internal: no public clause cites this.
--- What the private functions do: the next card placed beside those that have an identity, with
--- others moved. A placed card is one with an index below the length of `chosen`; it holds
--- `slice_index chosen k`.
+-- How is the next card placed beside those that have an identity, if others are moved? A placed
+-- card is one with an index below the length of `chosen`; it holds `slice_index chosen k`.
 use Rattle.std.specs.Prelude.{◌≡◌, ℕ, ◌+◌, ◌<◌, ◌==◌, ◌^◌, ◌⊎◌, List, length, slice_index, if◌then◌else◌}
 use Rattle.hb_sets.specs.Sets.{Has}
 use Rattle.hb_match.specs.Matching.{uses}
@@ -30,7 +29,7 @@ pub record CanMove (masks chosen : List ℕ) (free from to : ℕ) : Type 0 where
   pub inside : Has free to
   pub small : to < 64
 
--- 1 where x is id, else 0
+-- 1 if x is id, else 0
 unfoldable pub one : ℕ → ℕ → ℕ
 one x id = if x == id then 1 else 0
 

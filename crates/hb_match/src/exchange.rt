@@ -1,4 +1,4 @@
-//! The identities that one card can have, from one assignment.
+//! Which identities can one card have, from one assignment?
 
 ghost use Rattle.std.specs.Prelude.{◌<◌, ◌≤◌, length};
 ghost use Rattle.hb_match.specs.Matching.{IsAssignment, IsPossibleSet};
@@ -9,7 +9,7 @@ use hb_sets::{common, meet, with};
 
 /// The set of the identities that the card has in some assignment, from one of them.
 ///
-/// `free` grows to the identities of which the card can have a copy where other cards move: those
+/// `free` grows to the identities of which the card can have a copy if other cards move: those
 /// with a copy left over, its own, and each that is held by a card which could take one of these
 /// instead.
 pub fn possible_from(masks: &[u64], left: &[u8; IDENTITIES], chosen: &[u8], card: usize) -> u64

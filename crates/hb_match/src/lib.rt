@@ -1,4 +1,4 @@
-//! Which identities hidden cards can have, where each identity has a number of copies.
+//! Which identities can hidden cards have, if each identity has a number of copies?
 //!
 //! A card comes with its mask, the set of the identities that it may have, and an identity, named
 //! by its number, with the copies of it that are left. An assignment gives each card an identity of
@@ -6,7 +6,7 @@
 //! the game: masks and copies are its caller's.
 //!
 //! The contracts promise, in the words of `specs/Matching.antt`:
-//! - `assign` answers an assignment where there is one. Else it answers an obstruction: cards for
+//! - `assign` answers an assignment if there is one. Else it answers an obstruction: cards for
 //!   whose identities fewer copies are left than there are cards. This is Hall's condition, with
 //!   copies.
 //! - `possible` and `possible_all` answer exactly the identities that a card has over all
@@ -70,7 +70,7 @@ pub fn assign(masks: &[u64], left: &[u8; IDENTITIES]) -> Verdict
     Verdict::Given(chosen)
 }
 
-/// The set of the identities that the card has in some assignment. It is empty where there is no
+/// The set of the identities that the card has in some assignment. It is empty if there is no
 /// assignment.
 ///
 /// `card` is an index of `masks`; `masks` and `left` are as in `assign`.

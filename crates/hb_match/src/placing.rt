@@ -1,5 +1,5 @@
-//! Cards placed one after the other: the next card gets an identity, and placed cards move to
-//! others where they must.
+//! How are cards placed one after the other? The next card gets an identity, and placed cards move
+//! to others if they must.
 
 ghost use Rattle.std.specs.Prelude.{◌≡◌, ℕ, ◌<◌, ◌≤◌, ◌↔◌, length, slice_index, MatchOption, MatchResult};
 ghost use Rattle.arrayvec.specs.ArrayVec.{array_vec_len};
@@ -55,8 +55,8 @@ fn mover(masks: &[u64], chosen: &[u8], free: u64) -> Option<(usize, u8)>
     None
 }
 
-/// Places the next card where placed cards can make room for it. This finds an augmenting path from
-/// its end: `free` has the identities of which a copy can be had, and an identity joins it where
+/// Places the next card if placed cards can make room for it. This finds an augmenting path from
+/// its end: `free` has the identities of which a copy can be had, and an identity joins it if
 /// the card that holds it could move there.
 ///
 /// `Ok(over)` says that of `over`, a member of `free`, one copy more is used, and of no other

@@ -1,5 +1,5 @@
--- The one text in which a replay is written: a JSON value without spaces, whose keys `put` keeps in
--- byte order.
+-- In which one text is a replay written? It is a JSON value without spaces, whose keys `put` keeps
+-- in byte order.
 use Rattle.std.specs.Prelude.{ℕ, List, codes, map, not, ◌==◌, length, reverse}
 use Rattle.serde_json.specs.Data.{Data, array, object, no_members, member, put}
 use Rattle.serde_json.specs.View.{items_of}

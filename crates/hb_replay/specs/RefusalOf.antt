@@ -1,5 +1,5 @@
--- Why a JSON value is no replay: the table of refusals, a line for each row. The first row that
--- holds is the refusal.
+-- Why is a JSON value no replay? This is the table of refusals, a line for each row. The first row
+-- that holds is the refusal.
 use Rattle.std.specs.Prelude.{◌≡◌, ℕ, zero, suc, ◌+◌, ◌<◌, ◌≤◌, List, [], ◌∷◌, length, codes, Bool, Option, None, Some, true, false, ◌&&◌, ◌==◌, ◌⊎◌}
 use Rattle.serde_json.specs.Data.{Data, array, object, Items, no_items, item, Members}
 use Rattle.serde_json.specs.Find.{get}

@@ -1,4 +1,5 @@
--- The refusals of what has the shape of a replay, in their order, and the game that is played.
+-- Which refusal of what has the shape of a replay is the first, as a function, and which game is
+-- played?
 use Rattle.std.specs.Prelude.{ℕ, ◌+◌, List, [], ◌∷◌, Result, nat_lt, if◌then◌else◌, ◌&&◌, ◌==◌, length}
 use Rattle.std.specs.declared.option.Option.{Option}
 use Rattle.std.specs.declared.option.Option.TheVariants.{None, Some}

@@ -1,4 +1,4 @@
--- Which replay a JSON value is, by the cases of the value. No order of checks matters here, and no
+-- Which replay is a JSON value, by the cases of the value? No order of checks matters here, and no
 -- refusal is named.
 use Rattle.std.specs.Prelude.{◌≡◌, List, [], ◌∷◌, length, None, Some, true, false, ◌&&◌, ◌==◌, ◌⊎◌}
 use Rattle.serde_json.specs.Data.{Data}

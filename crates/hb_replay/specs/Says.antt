@@ -1,5 +1,5 @@
--- What a JSON value of the right shape says, by the cases of the value. No order of checks matters
--- here, and no place is named.
+-- What does a JSON value of the right shape say, by the cases of the value? No order of checks
+-- matters here, and no place is named.
 use Rattle.std.specs.Prelude.{◌≡◌, ℕ, ◌<◌, List, [], ◌∷◌, codes, Option, None, Some, Bool, true, false, ◌⊎◌, ⊤}
 use Rattle.serde_json.specs.Data.{Data, boolean, string, array, object, Items, no_items, item, Members, no_members, member}
 use Rattle.serde_json.specs.Find.{get, get_member}

@@ -1,6 +1,6 @@
--- The shape of a replay: what a JSON value says, or the first place that has not the right shape.
--- Members of a list are looked at in their order, and the fields of an object in the order of these
--- definitions.
+-- What does a JSON value say, or which place is the first that has not the right shape, as a
+-- function? Members of a list are looked at in their order, and the fields of an object in the
+-- order of these definitions.
 use Rattle.std.specs.Prelude.{ℕ, ◌+◌, List, [], ◌∷◌, codes, Result, if◌then◌else◌, option_and_then, unwrap_or, ◌==◌}
 use Rattle.std.specs.declared.option.Option.{Option}
 use Rattle.std.specs.declared.option.Option.TheVariants.{Some}

@@ -1,5 +1,5 @@
--- What a written replay stands for: the options of its game, what its actions do, and the replay
--- that it is of a game.
+-- Which game does a written replay stand for? Here are the options of its game, what its actions
+-- do, and the replay that it is of a game.
 use Rattle.std.specs.Prelude.{ℕ, if◌then◌else◌, Bool, false, ◌==◌, is_some, length}
 use Rattle.std.specs.declared.option.Option.{Option}
 use Rattle.std.specs.declared.option.Option.TheVariants.{None, Some}

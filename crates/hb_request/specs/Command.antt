@@ -1,4 +1,4 @@
--- The words of the commands, which are this project's own.
+-- Which words are commands? They are this project's own.
 use Rattle.std.specs.Prelude.{ℕ, List, Option, codes, find}
 use Rattle.std.specs.Str.{bytes_eq}
 use Rattle.hb_request.specs.declared.commands.TableCommand.{TableCommand}

@@ -1,6 +1,6 @@
--- The fields of requests: what a JSON object says of each, or the field that is missing or out of
--- its range. The fields of a command are looked at in the order of these definitions. Other keys
--- are ignored.
+-- What does each field of a request say, or why is it refused? A field may be missing or out of its
+-- range. The fields of a command are looked at in the order of these definitions. Other keys are
+-- ignored.
 use Rattle.std.specs.Prelude.{ℕ, ◌-◌, ◌^◌, List, codes, length, Result, nat_le, if◌then◌else◌, ◌&&◌, ◌==◌, is_none, is_some, Option, None, Some, option_map, option_and_then}
 use Rattle.std.specs.declared.result.Result.TheVariants.{Ok, Err}
 use Rattle.serde_json.specs.Data.{Data, object, no_members}

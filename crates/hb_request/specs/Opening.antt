@@ -1,4 +1,4 @@
--- What opens a table: the name of a variant and the options of its game, in which the first seat
+-- What opens a table? The name of a variant and the options of its game, in which the first seat
 -- has the first turn.
 use Rattle.std.specs.Prelude.{ℕ, List, Bool}
 use Rattle.hb_rules.specs.declared.acts.Options.{Options}

@@ -1,4 +1,5 @@
--- What a message asks: it is a command word, one space and a JSON object.
+-- What does a message ask, or why does it ask nothing? It is a command word, one space and a JSON
+-- object.
 use Rattle.std.specs.Prelude.{Bool, ◌≡◌, ℕ, ◌==◌, List, [], ◌∷◌, length, Result, nat_le, nat_lt, if◌then◌else◌, Option, None, Some}
 use Rattle.std.specs.declared.result.Result.TheVariants.{Ok, Err}
 use Rattle.serde_json.specs.Find.{as_object}

@@ -1,4 +1,4 @@
--- The message of a request.
+-- As which message is a request written?
 use Rattle.std.specs.Prelude.{ℕ, List, codes}
 use Rattle.serde_json.specs.Data.{Data, string, object, Members, no_members, put}
 use Rattle.hb_rules.specs.declared.acts.Action.{Action}

@@ -1,4 +1,4 @@
--- The ranges of a request's fields.
+-- Which requests are in their ranges?
 use Rattle.std.specs.Prelude.{◌≡◌, ◌≤◌, ℕ, ◌-◌, ◌^◌, List, length, true, is_some, Option, None, Some, ⊤}
 use Rattle.hb_rules.specs.declared.acts.Options.{Options}
 use Rattle.hb_rules.specs.declared.limits.TheConstants.{HIGHEST_RANK}

@@ -1,4 +1,4 @@
-//! The limits of messages and of their numbers, each named once. They are this server's own.
+//! Which limits have messages and their numbers? Each is named once. They are this server's own.
 
 use hb_rules::{MOST_CARDS, MOST_PLAYERS, MOST_SUITS};
 

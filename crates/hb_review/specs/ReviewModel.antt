@@ -1,4 +1,4 @@
--- What contracts see of a review, and what it keeps between calls.
+-- What do contracts see of a review, and what does it keep between calls?
 use Rattle.std.specs.Prelude.{◌≡◌, ℕ, ◌≤◌, length, List}
 use Rattle.hb_rules.specs.Setup.{Position}
 use Rattle.hb_review.specs.declared.steps.Step.{Step}

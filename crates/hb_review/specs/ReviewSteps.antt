@@ -1,4 +1,4 @@
--- The steps that a review took, as a list.
+-- Which steps did a review take, as a list?
 use Rattle.std.specs.Prelude.{List, [], ◌∷◌}
 use Rattle.hb_review.specs.declared.steps.Step.{Step}
 use Rattle.hb_review.specs.declared.steps.Newest.{Newest}

@@ -1,5 +1,6 @@
--- Reviews, defined on the acts of a game and the steps that its review took. In each list the
--- newest stands first. The rules of reviews are this project's own.
+-- Where does a review stand after its steps? It is defined on the acts of a game and the steps that
+-- its review took. In each list the newest stands first. The rules of reviews are this project's
+-- own.
 use Rattle.std.specs.Prelude.{◌≡◌, ℕ, ◌+◌, ◌-◌, ◌==◌, nat_lt, if◌then◌else◌, ⊤, List, [], ◌∷◌, length, drop, Option, Some, None}
 use Rattle.std.specs.Option.{option_map}
 use Rattle.hb_rules.specs.declared.acts.Action.{Action}

@@ -1,4 +1,4 @@
-//! Why a step is refused.
+//! Why is a step refused?
 
 ghost use Rattle.std.specs.Prelude.{◌≡◌};
 ghost use Rattle.hb_review.specs.Reviews.{error_number};

@@ -1,4 +1,4 @@
-//! A review, and the steps that it takes.
+//! What is a review, and which steps does it take?
 
 ghost use Rattle.std.specs.Prelude.{◌≡◌, ◌≢◌, ◌≤◌, [], ◌∷◌, length, drop, Some, None, IsSome, IsErrOf, IfErr, OnErr, OnOk};
 ghost use Rattle.hb_rules.specs.Positions.{IsLegal, ended};

@@ -1,4 +1,4 @@
-//! The steps that a review took.
+//! Which steps did a review take?
 
 ghost use Rattle.std.specs.Prelude.{◌≡◌, [], ◌∷◌};
 

@@ -1,5 +1,5 @@
--- The cards of a variant, how many copies there are of each identity, and what a deck is.
--- The copies are the rulebook's; Black has one card of each rank, after Hanabi Live.
+-- Which cards has a variant, how many copies are there of each, and what is a deck? The copies are
+-- the rulebook's; Black has one card of each rank, after Hanabi Live.
 use Rattle.std.specs.Prelude.{◌≡◌, ℕ, ◌+◌, ◌-◌, ◌*◌, ◌/◌, ◌%◌, nat_lt, nat_le, Bool, true, false, ◌&&◌, ◌||◌, ◌==◌, List, ◌++◌, Option, Some, None, is_some, count_by, flat_map, replicate, if◌then◌else◌, slice_index_or}
 use Rattle.std.specs.List.{list_all, range_with_len}
 use Rattle.hb_rules.specs.declared.limits.TheConstants.{HIGHEST_RANK, MOST_SUITS}

@@ -1,6 +1,5 @@
--- The deals that allow the acts of an observation and give it, and the identities that an order has
--- in them. The definitions range over whole decks played from the deal on, and no argument holds a
--- hidden card.
+-- Which full decks allow what was observed, and so which identities are possible for a card? The
+-- definitions range over whole decks played from the deal on, and no argument holds a hidden card.
 use Rattle.std.specs.Prelude.{◌≡◌, ℕ, zero, suc, Bool, ◌&&◌, List, [], ◌∷◌, filter, flat_map, length, map}
 use Rattle.std.specs.List.{list_any, range_with_len}
 use Rattle.hb_rules.specs.declared.suits.Identity.{Identity}

@@ -1,6 +1,6 @@
--- The rule that an act breaks, and legal histories. The rules are the rulebook's, except this
--- project's own: their order, that a clue which touches nothing is refused unless an option allows
--- it, and the ends that are called.
+-- Which rule does an act break, and what is a legal history? The rules are the rulebook's, except
+-- this project's own: their order, that a clue which touches nothing is refused unless an option
+-- allows it, and the ends that are called.
 use Rattle.std.specs.Prelude.{◌≡◌, ℕ, Bool, true, false, not, ◌&&◌, ◌==◌, List, [], ◌∷◌, Option, None, nat_le, is_none, is_some, ⊤, filter}
 use Rattle.std.specs.List.{find}
 use Rattle.hb_rules.specs.declared.acts.Act.{Act}

@@ -1,5 +1,5 @@
--- What a viewer has observed of a game: what all know of it, and its events without the cards that
--- the viewer's blind set hides. What a viewer is sent of a game is a function of this record,
+-- What has a viewer observed of a game? It is what all know of it, and its events without the cards
+-- that the viewer's blind set hides. What a viewer is sent of a game is a function of this record,
 -- except for the names in its first line. It has no deck.
 use Rattle.std.specs.Prelude.{ℕ, ◌^◌, List, bit_or}
 use Rattle.hb_rules.specs.declared.acts.Options.{Options}

@@ -1,5 +1,5 @@
--- The words of the rules said of a position, for contracts that hold a game as one value: each is
--- the word of the same name, of the position's setup and its acts so far.
+-- How are the words of the rules said of a game that is held as one value? Each is the word of the
+-- same name, of the position's setup and its acts so far.
 use Rattle.std.specs.Prelude.{ℕ, Bool, List, ◌∷◌, Option}
 use Rattle.hb_rules.specs.declared.acts.Act.{Act}
 use Rattle.hb_rules.specs.declared.acts.Clue.{Clue}

@@ -1,4 +1,4 @@
--- Tests of whether two events are one.
+-- When are two events one?
 use Rattle.std.specs.Prelude.{Bool, false, not, ◌&&◌, ◌==◌, List, if◌then◌else◌}
 use Rattle.std.specs.Cmp.Lexicographic.{pointwise}
 use Rattle.std.specs.Option.{option_eq}

@@ -3,7 +3,7 @@ use Rattle.std.specs.Prelude.{◌≡◌, ℕ, ◌<◌, ◌==◌, List, filter}
 use Rattle.std.specs.Int.{bit_at}
 use Rattle.std.specs.List.{range_with_len}
 
--- 1 where the set has k, else 0
+-- 1 if the set has k, else 0
 unfoldable pub bit : ℕ → ℕ → ℕ
 bit set k = bit_at set k
 

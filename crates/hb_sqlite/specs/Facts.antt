@@ -1,4 +1,4 @@
--- What a store's tables hold, and how that is read as what a keeper contains.
+-- What do the tables of a store hold, and what does that say of what a keeper contains?
 use Rattle.std.specs.Prelude.{◌≡◌, ℕ, ◌+◌, ◌^◌, ◌<◌, length, pos, false, Option, Some, None, List, [], ◌∷◌, ◌++◌, slice_get, if◌then◌else◌}
 use Rattle.sqlite_value.specs.declared.value.Value.TheVariants.{Null, Int, Text as Words}
 use Rattle.sqlite_value.specs.Order.{Row}
@@ -25,7 +25,7 @@ game_row id key row =
     (pos row.how) ∷ Int (pos row.score)
     ∷ Words row.text ∷ []
 
--- the rows of games, where the ids begin from this one
+-- the rows of games, if the ids begin from this one
 abbrev pub game_rows : ℕ → List (Key × GameRow) → List Row
 game_rows id [] = []
 game_rows id (kept ∷ rows) = game_row id kept.0 kept.1 ∷ game_rows (id + 1) rows
@@ -40,7 +40,7 @@ seats_from game seat [] = []
 seats_from game seat (name ∷ names) = (Int (pos game) ∷ Int
     (pos seat) ∷ Words name ∷ []) ∷ seats_from game (seat + 1) names
 
--- the columns of the seats of games, where the ids begin from this one
+-- the columns of the seats of games, if the ids begin from this one
 abbrev pub seat_rows : ℕ → List (Key × GameRow) → List Row
 seat_rows id [] = []
 seat_rows id (kept ∷ rows) = seats_from id 0 kept.1.names ++ seat_rows (id + 1) rows

@@ -1,10 +1,10 @@
 -- Internal: no public clause cites this.
--- What is read of a game's rows.
+-- What is read of the rows of a game?
 use Rattle.std.specs.Prelude.{◌≡◌, Option, Some, None, ⊤}
 use Rattle.hb_keeper.specs.declared.rows.GameRow.{GameRow}
 use Rattle.hb_sqlite.specs.declared.reading.Head.{Head}
 
--- the game but for its names
+-- the game except its names
 pub record IsHead (row : GameRow) (head : Head) : Type 0 where
   pub how : head.how ≡ row.how
   pub score : head.score ≡ row.score

@@ -1,5 +1,5 @@
 -- Internal: no public clause cites this.
--- What the seats with a name give.
+-- What do the seats with a name give?
 use Rattle.std.specs.Prelude.{ℕ, ◌+◌, ◌==◌, bytes_eq, if◌then◌else◌, List, [], ◌∷◌, ◌++◌, Option, Some, None}
 use Rattle.hb_keeper.specs.declared.rows.Key.{Key}
 use Rattle.hb_keeper.specs.declared.rows.GameRow.{GameRow}

@@ -1,4 +1,4 @@
--- How the tables of a new store are made, step by step, inside one transaction.
+-- How are the tables of a new store made, step by step, inside one transaction?
 use Rattle.std.specs.Prelude.{◌≡◌, ◌≢◌, ℕ, ℤ, pos, true, List, [], ◌∷◌, Result, Err, OnOk, IsTrue}
 use Rattle.std.specs.List.{AllByRecursion}
 use Rattle.sqlite_value.specs.Order.{Row}

@@ -1,4 +1,4 @@
--- What a step of a call on a store answers and leaves.
+-- What does a step of a call on a store answer and leave?
 use Rattle.std.specs.Prelude.{Result, IsTrue, IfOk, OnErr}
 use Rattle.sqlite.specs.State.{State, HasCleanDisk}
 use Rattle.hb_keeper.specs.KeptGames.{Content}

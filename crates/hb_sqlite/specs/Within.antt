@@ -1,5 +1,5 @@
 -- Internal: no public clause cites this.
--- What a step inside a transaction leaves.
+-- What does a step inside a transaction leave?
 use Rattle.std.specs.Prelude.{◌≡◌, ℕ, ◌^◌, ◌<◌, length, true, List, [], ◌∷◌, Result, IfOk}
 use Rattle.sqlite_value.specs.Order.{Row}
 use Rattle.sqlite.specs.Effect.{Database}

@@ -1,5 +1,6 @@
--- The names of variants: 36 that are listed, and those that are spelled by their suits. The listed
--- names are Hanabi Live's; which are listed, and what each stands for, is this project's own.
+-- Which variant has which name? There are 36 that are listed, and those that are spelled by their
+-- suits. The listed names are Hanabi Live's; which are listed, and what each stands for, is this
+-- project's own.
 use Rattle.std.specs.Prelude.{◌≡◌, ℕ, Bool, false, List, [], ◌∷◌, ◌++◌, ◌==◌, Option, Some, None, codes, map, take, drop, find, filter_map, is_some, option_and_then, if◌then◌else◌}
 use Rattle.std.specs.List.{list_all, list_any, slice_split, join_with_byte}
 use Rattle.std.specs.Str.{bytes_eq}

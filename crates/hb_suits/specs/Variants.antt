@@ -1,4 +1,4 @@
--- The variant that a list of suits makes.
+-- Which variant does a list of suits make?
 use Rattle.std.specs.Prelude.{◌≡◌, ◌-◌, Bool, true, false, List, ◌++◌, Option, Some, None, map, replicate, length, refl}
 use Rattle.hb_rules.specs.declared.limits.TheConstants.{MOST_SUITS}
 use Rattle.hb_rules.specs.declared.suits.Suit.{Suit}

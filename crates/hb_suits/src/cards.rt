@@ -1,4 +1,4 @@
-//! The cards of a variant: how many copies there are, how many cards, and which identities.
+//! How many copies of a card has a variant, how many cards, and which identities?
 
 ghost use Rattle.std.specs.Prelude.{◌≡◌, ℕ, ◌≤◌, ◌==◌, length};
 ghost use Rattle.hb_rules.specs.Cards.{cards, copies, rank_copies, in_range, has_number, suit_cards};

@@ -1,4 +1,4 @@
-//! Variants by their names.
+//! Which variant has which name?
 
 ghost use Rattle.std.specs.Prelude.{◌≡◌, ◌≤◌, ◌++◌, ◌↔◌, List, true, false, find, IfOk, OnErr, MatchOption};
 ghost use Rattle.std.specs.Option.{ok_or};

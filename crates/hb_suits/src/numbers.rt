@@ -1,4 +1,4 @@
-//! The numbers of identities.
+//! Which number has an identity?
 
 ghost use Rattle.std.specs.Prelude.{◌≡◌, ◌<◌, ◌≤◌, ◌↔◌, IsTrue, IsNone, IfSome};
 ghost use Rattle.hb_rules.specs.Cards.{number, in_range, identity};

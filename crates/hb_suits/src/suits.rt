@@ -1,4 +1,4 @@
-//! The suits of a variant, their kinds and their clue colours.
+//! Which suits has a variant, and of which kinds and clue colours are they?
 
 ghost use Rattle.std.specs.Prelude.{◌≡◌, ◌≤◌, length};
 ghost use Rattle.hb_rules.specs.Suits.{kind_of, has_color};

@@ -1,4 +1,4 @@
-//! The variant that a list of suits makes.
+//! Which variant does a list of suits make?
 
 ghost use Rattle.std.specs.Prelude.{◌≡◌, ◌==◌};
 ghost use Rattle.std.specs.List.{list_all, list_any};

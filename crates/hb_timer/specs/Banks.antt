@@ -1,6 +1,6 @@
--- Banks of time, defined on what a timer was made with and the calls that it accepted since, of
--- which a list has the newest first. Times and moments are in milliseconds. The rules are this
--- project's own.
+-- How much time has a seat left? Banks are defined on what a timer was made with and the calls that
+-- it accepted since, of which a list has the newest first. Times and moments are in milliseconds.
+-- The rules are this project's own.
 use Rattle.std.specs.Prelude.{◌≡◌, ℕ, zero, suc, ◌+◌, ◌-◌, ◌%◌, ◌≤◌, ◌==◌, ◌↔◌, min, max, Bool, true, false, ◌&&◌, if◌then◌else◌, Option, Some, None, List, [], ◌∷◌}
 use Rattle.std.specs.Option.{ForSome}
 use Rattle.hb_timer.specs.declared.timing.TheConstants.{BANK_LIMIT}
@@ -54,7 +54,7 @@ seat_of_turn timing turn = (timing.first + turn) % timing.seats
 abbrev pub turn_seat : Timing → List TimerCall → ℕ
 turn_seat timing calls = seat_of_turn timing (turn_number calls)
 
--- the own time of a turn: each call ends an interval, which counts where time ran in that turn
+-- the own time of a turn: each call ends an interval, which counts if time ran in that turn
 abbrev pub own_time : Timing → ℕ → List TimerCall → ℕ
 own_time timing turn [] = 0
 own_time timing turn (call ∷ calls) =
@@ -72,7 +72,7 @@ bank_after timing calls seat (suc turn) =
     then min BANK_LIMIT (before - own_time timing turn calls + timing.per_turn)
     else before
 
--- the effective time from the newest call up to a moment, where time runs
+-- the effective time from the newest call up to a moment, if time runs
 abbrev pub since : Timing → List TimerCall → ℕ → ℕ
 since timing calls moment = if is_running calls then moment - effective timing calls else 0
 
@@ -97,7 +97,7 @@ RunsOutAt timing calls end =
     (moment : ℕ) → effective timing calls ≤ moment
     → (bank timing calls (turn_seat timing calls) moment ≡ 0) ↔ (end ≤ moment)
 
--- the moment is not past the deadline, where there is one
+-- the moment is not past the deadline, if there is one
 abbrev pub IsOnTime : Timing → List TimerCall → ℕ → Type 0
 IsOnTime timing calls moment = ForSome (deadline timing calls) (λ end. moment ≤ end)
 

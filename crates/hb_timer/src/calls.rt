@@ -1,4 +1,4 @@
-//! The calls that a timer accepted, for contracts alone.
+//! Which calls did a timer accept? Contracts alone speak of them.
 
 ghost use Rattle.std.specs.Prelude.{◌≡◌, [], ◌∷◌};
 

@@ -1,4 +1,4 @@
-//! The banks and the moment that a timer keeps, and how time passes on them.
+//! Which banks and which moment does a timer keep, and how does time pass on them?
 
 ghost use Rattle.std.specs.Prelude.{◌≡◌, ◌<◌, ◌≤◌, ◌-◌, slice_index, IsTrue};
 

@@ -1,4 +1,4 @@
-//! The timer: its calls and its readers.
+//! What does a timer do at its calls, and what do its readers answer?
 
 ghost use Rattle.std.specs.Prelude.{◌≡◌, ◌<◌, ◌≤◌, [], ◌∷◌, IsTrue, IsFalse, IfSome};
 ghost use Rattle.hb_timer.specs.Banks.{bank, deadline, is_running, is_stopped, state_of, IsOnTime, RunsOutAt};
@@ -174,7 +174,7 @@ impl Timer {
 
     /// Lets time stand still for good. No bank gains.
     ///
-    /// Time runs or is paused, and the moment is not past the deadline where there is one.
+    /// Time runs or is paused, and the moment is not past the deadline if there is one.
     pub fn stop(&mut self, moment: u64)
         requires not_stopped { IsFalse (is_stopped self.old.calls) }
         requires on_time { IsOnTime self.old.timing self.old.calls moment }

@@ -1,4 +1,4 @@
-//! What a timer is made with, the calls that contracts list, and the limits.
+//! What is a timer made with, which calls do contracts list, and which limits are there?
 
 /// The most seats that a timer can have. The fewest are two.
 pub const MOST_SEATS: usize = 6;

@@ -1,4 +1,4 @@
--- The sets of identities that clues touch.
+-- Which set of identities does each clue touch?
 use Rattle.std.specs.Prelude.{◌≡◌, ℕ, ◌+◌, ◌<◌, true, ◌==◌, ◌&&◌, length, slice_index}
 use Rattle.hb_rules.specs.declared.acts.Clue.{Clue}
 use Rattle.hb_rules.specs.declared.acts.Clue.TheVariants as clue

@@ -1,4 +1,5 @@
--- What is kept of a game: a setup that may be played with, and a table that is that of the acts.
+-- What holds of every game, and what does a game keep of its acts? It keeps a setup that may be
+-- played with, and a table that is that of the acts.
 use Rattle.std.specs.Prelude.{◌==◌, ◌≡◌, ℕ, ◌+◌, ◌*◌, ◌<◌, ◌≤◌, List, Option, None, length, slice_index, slice_index_or}
 use Rattle.hb_rules.specs.declared.acts.Act.{Act}
 use Rattle.hb_rules.specs.declared.acts.EndHow.{EndHow}

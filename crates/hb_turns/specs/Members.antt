@@ -1,5 +1,5 @@
 -- Internal: no public clause cites this.
--- The next member of a set from a number on.
+-- Which member of a set comes next?
 use Rattle.std.specs.Prelude.{◌≡◌, ℕ, ◌<◌, ◌≤◌}
 use Rattle.hb_sets.specs.Sets.{bit, Has}
 

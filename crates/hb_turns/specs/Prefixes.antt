@@ -1,4 +1,4 @@
--- The game of the first acts.
+-- What is the game of the first acts?
 use Rattle.std.specs.Prelude.{ℕ, ◌-◌, List, length, drop}
 use Rattle.hb_rules.specs.declared.acts.Act.{Act}
 use Rattle.hb_rules.specs.Setup.{Position}

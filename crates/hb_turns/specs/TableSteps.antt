@@ -1,5 +1,5 @@
 -- Internal: no public clause cites this.
--- The table after each act, by the table before it, and the end that a table has come to.
+-- How does each act change the table that a game keeps, and which end has a table come to?
 use Rattle.std.specs.Prelude.{◌≡◌, ℕ, ◌+◌, ◌-◌, ◌<◌, ◌≤◌, ◌^◌, Bool, true, ◌==◌, ◌&&◌, ◌||◌, List, Option, Some, None, length, slice_index, slice_set, if◌then◌else◌, nat_lt, nat_le, bit_or}
 use Rattle.std.specs.Int.Bits.{bit_xor}
 use Rattle.std.specs.Option.{option_or}
@@ -102,7 +102,7 @@ abbrev pub discard_table : Setup → Table → ℕ → ℕ → Table
 discard_table g t who order =
     moved g (record (lost_card t (card g order)) { tokens = t.tokens + 1 }) who order
 
--- a clue is given, but for the marks
+-- a clue is given, except for the marks
 abbrev pub clue_table : Table → Table
 clue_table t = record t { tokens = t.tokens - 1; turns = t.turns + 1 }
 

@@ -1,4 +1,4 @@
-//! How many cards are dealt, and to whom.
+//! How many cards are dealt, and to whom?
 
 ghost use Rattle.std.specs.Prelude.{◌≡◌, ◌*◌, ◌≤◌, length};
 ghost use Rattle.hb_rules.specs.Setup.{hand_size, deal_size};

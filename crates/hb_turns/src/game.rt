@@ -1,4 +1,4 @@
-//! A game: its start, and its acts.
+//! How does a game start, and how is an act taken?
 
 mod clues;
 mod readers;

@@ -1,4 +1,4 @@
-//! Which identities each clue touches, found once for a game.
+//! Which identities does each clue touch, found once for a game?
 
 ghost use Rattle.std.specs.Prelude.{◌≡◌, ℕ, ◌+◌, ◌<◌, true, length, slice_index};
 ghost use Rattle.hb_rules.specs.Touch.{offers};

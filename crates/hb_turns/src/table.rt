@@ -1,4 +1,4 @@
-//! What a game keeps of its acts, and how each act changes it.
+//! What does a game keep of its acts, and how does each act change it?
 
 mod end;
 mod marks;

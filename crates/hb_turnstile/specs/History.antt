@@ -1,5 +1,5 @@
--- Histories: the calls of all passes in the order in which the machine took them, and when such a
--- list is legal.
+-- When is a list of calls legal? A history has the calls of all passes in the order in which the
+-- machine took them.
 use Rattle.std.specs.Prelude.{◌≡◌, ℕ, ◌==◌, List, [], ◌∷◌, filter}
 use Rattle.hb_turnstile.specs.declared.view.Entry.{Entry}
 

@@ -1,8 +1,8 @@
 -- Internal: no public clause cites this.
--- What holds of a turnstile's table between any two atomic steps, and what each step tells the pass
--- that takes it. Word 0 is the ticket that is given next, word 1 the ticket that is served. The one
--- slot has the machine, and is out with the pass that has found its turn, if there is one. The
--- number of a pass is that of its seat.
+-- What holds of a turnstile's table between any two atomic steps, and what does each step tell the
+-- pass that takes it? Word 0 is the ticket that is given next, word 1 the ticket that is served.
+-- The one slot has the machine, and is out with the pass that has found its turn, if there is one.
+-- The number of a pass is that of its seat.
 use Rattle.std.specs.Prelude.{◌≡◌, ◌≢◌, ℕ, ◌<◌, ◌≤◌, Bool, true, false, List, [], ◌∷◌, ◌++◌, length, Option, Some}
 use mathlib.Core.Option.{some}
 use mathlib.Core.List.{IsPrefix}
@@ -111,7 +111,7 @@ pub record Fits {C R : Type 0} (now : Now C R) (seat : ℕ) (v : View C R) : Typ
   pub stage : FitsStage now seat v.number v.seen v.stage
 
 module _ {M C R : Type 0} (turns : M → C → R → M → Type 0) (start : M) where
-  -- What holds of the table between two steps. Where no pass has found its turn, the slot has the
+  -- What holds of the table between two steps. If no pass has found its turn, the slot has the
   -- machine as the history leaves it. The history is legal, and has as many calls as tickets were
   -- served. A seat that is still to come has made no calls.
   pub record IsConsistent (s : State (Option M) (View C R)) : Type 0 where
@@ -164,7 +164,7 @@ module _ {M C R : Type 0} (turns : M → C → R → M → Type 0) (start : M) w
 
 -- What the steps tell: of a step, the seat before, the number found, and the seat after
 module _ {M C R : Type 0} (turns : M → C → R → M → Type 0) (start : Option M) where
-  -- a load of the serving word by a pass that waits: where its ticket is served, the turn is its
+  -- a load of the serving word by a pass that waits: if its ticket is served, the turn is its
   -- own
   abbrev pub Looks : Step (Option M) → PassSeat M C R → ℕ → PassSeat M C R → Type 0
   Looks st m n after =
@@ -194,14 +194,14 @@ module _ {M C R : Type 0} where
       (number : ℕ) × (after ≡ (with_number number m.0, m.1)) × (number ≢ m.0.number)
       × (calls_by number m.0.seen ≡ [])
 
-  -- a load of the ticket word: where all tickets were given the pass is marked, and a pass with the
+  -- a load of the ticket word: if all tickets were given the pass is marked, and a pass with the
   -- mark finds it so again
   abbrev pub SeesTicket : Step (Option M) → PassSeat M C R → ℕ → PassSeat M C R → Type 0
   SeesTicket st m n after =
       (MOST_TICKETS ≤ n → IsMarked m after) × (n < MOST_TICKETS → after ≡ m)
       × (m.0.worn ≡ true → MOST_TICKETS ≤ n)
 
-  -- a draw: the ticket is the pass's where the word was the one expected
+  -- a draw: the ticket is the pass's if the word was the one expected
   abbrev pub Draws : Step (Option M) → PassSeat M C R → ℕ → PassSeat M C R → Type 0
   Draws st m n after = (n ≡ st.first → HasDrawn n m after) × (n ≢ st.first → after ≡ m)
 

@@ -1,11 +1,11 @@
-//! What a turnstile guards.
+//! What does a turnstile guard?
 
 /// A state that takes one call at a time.
 pub trait Machine: Drop {
     /// What the machine is asked.
     type Call;
 
-    /// What it answers. Where a turn needs memory, the want of it is one of the replies.
+    /// What it answers. If a turn needs memory, one of the replies says that there is none.
     type Reply;
 
     // What one turn may do: of the machine before it, the call, the reply, and the machine after

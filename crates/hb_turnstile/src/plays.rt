@@ -1,5 +1,5 @@
-//! What each atomic step tells the pass that takes it. The types here name facts for the proofs,
-//! and have no values.
+//! What does each atomic step tell the pass that takes it? The types here name facts for the
+//! proofs, and have no values.
 
 ghost use Rattle.std.specs.Prelude.{Option, None};
 ghost use Rattle.hb_turnstile.specs.Rule.{SeesTicket, Draws, Looks, HandsOn, TakesNumber, SeesJoined, newcomer, informed, spent};

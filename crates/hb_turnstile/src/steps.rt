@@ -1,4 +1,4 @@
-//! The atomic steps of a call, a split and a join, on the seat of a pass.
+//! Which atomic steps do a call, a split and a join take on the seat of a pass?
 
 ghost use Rattle.std.specs.Prelude.{◌≡◌, true, None, Some, IfSome, IfNone};
 ghost use Rattle.hb_turnstile.specs.declared.view.Stage.TheVariants.{New, Idle, Waiting};
@@ -36,7 +36,7 @@ pub(crate) type SharedTable<M> = Shared<
 /// The seat of a pass at that table.
 pub(crate) type PassSeat<M> = Seat<Option<M>, View<<M as Machine>::Call, <M as Machine>::Reply>>;
 
-/// Draws a ticket. There is none where all were given, and the pass is then marked.
+/// Draws a ticket. There is none if all were given, and the pass is then marked.
 pub(crate) fn draw<M: Machine, W: Wait>(
     rt: &W,
     table: &SharedTable<M>,

@@ -1,4 +1,4 @@
-//! The turnstile and its passes.
+//! What are a turnstile and its passes?
 
 ghost use Rattle.std.specs.Prelude.{◌≡◌, true, false, IfOk, IfErr};
 ghost use Rattle.hb_turnstile.specs.Known.{first_pass, with_mark, Calls, IsSplitOff, Joins};
@@ -77,7 +77,7 @@ impl<M: Machine> Model for Pass<M> {
 impl<M: Machine> Turnstile<M> {
     /// A turnstile round this machine, and its first pass, which has seen nothing.
     ///
-    /// It answers `NoMemory` where there is no room for the table. The machine is then dropped.
+    /// It answers `NoMemory` if there is no room for the table. The machine is then dropped.
     pub fn new(alloc: Global, machine: M) -> Result<(Turnstile<M>, Pass<M>), NoMemory>
         ensures start { IfOk result (λ made. made.0.start ≡ machine) }
         ensures pass { IfOk result (λ made. made.1 ≡ first_pass made.0.table) }
@@ -96,7 +96,7 @@ impl<M: Machine> Turnstile<M> {
     /// Calls the machine, once every ticket that was drawn before has been served.
     ///
     /// The reply is the machine's at the call's place in the one history, which is then at the end
-    /// of what the pass has seen. The error is `Worn`, exactly where this call found that all
+    /// of what the pass has seen. The error is `Worn`, exactly if this call found that all
     /// [`MOST_TICKETS`] tickets were given: the machine is not called then, and the pass has the
     /// mark worn, which is never taken off.
     pub fn call<W: Wait>(
@@ -120,9 +120,9 @@ impl<M: Machine> Turnstile<M> {
     }
 
     /// A further pass, which has seen what this one has, and has made no calls. It has the mark
-    /// worn where this one has.
+    /// worn if this one has.
     ///
-    /// The pass that is split stays as it was, also where the answer is `NoMemory`. A pass takes no
+    /// The pass that is split stays as it was, also if the answer is `NoMemory`. A pass takes no
     /// bytes, so this body never gives that answer.
     pub fn split(&self, pass: &mut Pass<M>) -> Result<Pass<M>, NoMemory>
         requires { pass.old.table ≡ self.now.table }

@@ -1,4 +1,5 @@
-//! What a pass knows. Values of these types stand in contracts and proofs alone: no code makes one.
+//! What does a pass know? Values of these types stand in contracts and proofs alone: no code makes
+//! one.
 
 use std::collections::LinkedList;
 

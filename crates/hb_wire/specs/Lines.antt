@@ -1,4 +1,5 @@
--- The lines of a game, as functions of what a viewer is told. They are this project's own.
+-- How is each line of a game spelled, as a function of what a viewer is told? The lines are this
+-- project's own.
 use Rattle.std.specs.Prelude.{ℕ, ◌+◌, Bool, List, [], ◌∷◌, ◌++◌, Option, Some, None, codes, flat_map, if◌then◌else◌, map}
 use Rattle.serde_json.specs.Data.{Data, null, boolean, string, array, object, no_items, item, no_members, member}
 use Rattle.serde_json.specs.View.{items_of}

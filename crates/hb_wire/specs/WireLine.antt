@@ -1,4 +1,4 @@
--- The lines that are sent to a connection. They are this project's own.
+-- Which lines may a connection be sent, and how is each spelled? The lines are this project's own.
 use Rattle.std.specs.Prelude.{ℕ, List, codes, map, Option, None, Some}
 use Rattle.serde_json.specs.Data.{Data, null, string, object, Members, no_members, member, put}
 use Rattle.hb_rules.specs.declared.acts.Action.{Action}

@@ -1,4 +1,4 @@
-//! The hands, and what a clue touches of them.
+//! Which cards are in a hand, and which of them does a clue touch?
 
 ghost use Rattle.std.specs.Prelude.{◌≡◌, ℕ, ◌<◌, ◌≤◌, ◌==◌, IfSome, IfNone, IsTrue};
 ghost use Rattle.hb_rules.specs.Touch.{offers};

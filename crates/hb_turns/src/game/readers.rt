@@ -1,4 +1,4 @@
-//! What a game answers of its setup, its hands and its counts.
+//! What does a game answer of its setup, its hands and its counts?
 
 ghost use Rattle.std.specs.Prelude.{
   ◌≡◌,

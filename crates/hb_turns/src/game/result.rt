@@ -1,4 +1,4 @@
-//! How a game ended, and what it scores.
+//! How did a game end, and what does it score?
 
 ghost use Rattle.std.specs.Prelude.{◌≡◌, ◌≤◌, sum_by};
 ghost use Rattle.std.specs.List.{range_with_len};

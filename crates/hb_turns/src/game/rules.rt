@@ -1,4 +1,4 @@
-//! Which rule an act breaks.
+//! Which rule does an act break?
 
 ghost use Rattle.std.specs.Prelude.{◌≡◌, IsTrue};
 ghost use Rattle.hb_rules.specs.Touch.{offers};

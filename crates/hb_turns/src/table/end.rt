@@ -1,4 +1,4 @@
-//! How a game has ended, by its table.
+//! How has a game ended, by its table?
 
 ghost use Rattle.std.specs.Prelude.{◌≡◌, ◌<◌};
 ghost use Rattle.std.specs.List.{range_with_len, list_all};

@@ -1,4 +1,4 @@
-//! The identities that the clues allow each card.
+//! Which identities do the clues allow each card?
 
 ghost use Rattle.std.specs.Prelude.{◌≡◌, ℕ, ◌<◌, ◌≤◌, ◌==◌, ◌&&◌, All};
 ghost use Rattle.hb_rules.specs.Marks.{same};
