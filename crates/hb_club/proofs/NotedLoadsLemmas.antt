@@ -13,7 +13,7 @@ use Rattle.hb_club.specs.NewItems.{stamp_at}
 use Rattle.hb_club.specs.RoomEvents.{AsksTodo, Call, Happening, Loaded, Notes, Notice, RoomEvent, Saved, Site, event_moment, in_time}
 use Rattle.hb_club.specs.Rooms.{happening, past_of}
 use Rattle.hb_club.specs.Table.{Table}
-use Rattle.hb_club.specs.TableFacts.{own_entries, record_of, table_of}
+use Rattle.hb_club.specs.TableFacts.{loaded_game, own_entries, record_of, table_of}
 use Rattle.hb_club.specs.TableItems.{host, is_started, latest_items, opened_count}
 use Rattle.hb_club.specs.TableRefusals.{is_accepted}
 use Rattle.hb_club.specs.TimeFirst.{timeout, with_items}
@@ -26,11 +26,11 @@ use Rattle.hb_club.proofs.TableLoadsLemmas.{AreApart, false-true, keeps-apart, n
 use Rattle.hb_club.proofs.AcceptedLoadsLemmas.{taken-apart}
 
 -- the table that a notice finds
-abbrev table_noted : Site → List Happening → ℕ → Notice → Table
+abbrev pub table_noted : Site → List Happening → ℕ → Notice → Table
 table_noted s past moment notice =
     with_items (timeout (table_of s past) (table_of s past).game (event_moment (Notes moment notice))) (table_of s past)
 
-abbrev note_stamp : Site → List Happening → ℕ → Notice → ℕ
+abbrev pub note_stamp : Site → List Happening → ℕ → Notice → ℕ
 note_stamp s past moment notice = stamp_at (table_noted s past moment notice) past (in_time moment)
 
 plain-note : (s : Site) (past : List Happening) (moment : ℕ) (notice : Notice) (news : List Item)
@@ -54,14 +54,37 @@ noted-loaded t load (Saved table id) h = pick (table == t.latest && is_due t) h
 noted-loaded t None (Loaded table id game) h = cc
 noted-loaded t (Some asked) (Loaded table id game) h = refl
 
--- so it comes where nothing was started or loaded, and then nothing is pending
+-- so it comes where nothing was started or loaded
+pub noted-free : (s : Site) (past : List Happening) (moment : ℕ) (notice : Notice)
+    → noted_by (table_noted s past moment notice) (pending_load (table_noted s past moment notice) past) notice ≡ noted.Loaded
+    → AreApart past → (is_started (latest_items (record_of past)) ≡ false) × (is_some (loaded_game past) ≡ false)
+noted-free s past moment notice which before = before.waits pending
+  where
+    late : List Item
+    late = timeout (table_of s past) (table_of s past).game (event_moment (Notes moment notice))
+
+    items : List Item
+    items = latest_items (record_of past)
+
+    n : ℕ
+    n = opened_count (record_of past)
+
+    kept : AreKept late items
+    kept = are-kept late items (timeout-plain (table_of s past) (table_of s past).game (event_moment (Notes moment notice)))
+
+    pending : is_some (pending_at (host items) n past items) ≡ true
+    pending = pending_id-more (flat_map (λ (name : List ℕ). own_entries n name past) (option_to_list (host items))) late items
+        (subst (λ (by : Option (List ℕ)). is_some (pending_at by n past (late ++ items)) ≡ true) kept.host
+        (noted-loaded (table_noted s past moment notice) (pending_load (table_noted s past moment notice) past) notice which))
+
+-- and then nothing is pending
 note-apart : (s : Site) (events : List RoomEvent) (moment : ℕ) (notice : Notice)
     → noted_by (table_noted s (past_of s events) moment notice)
     (pending_load (table_noted s (past_of s events) moment notice) (past_of s events)) notice ≡ noted.Loaded
     → AreApart (past_of s events) → AreApart (happening s (past_of s events) (Notes moment notice) ∷ past_of s events)
 note-apart s events moment notice which before = record {
   waits = λ h. absurd (never (host items) (moved h));
-  apart = λ on. absurd (false-true (sym (before.waits pending).0 ∙ (sym started ∙ on)));
+  apart = λ on. absurd (false-true (sym (noted-free s past moment notice which before).0 ∙ (sym started ∙ on)));
 }
   where
     past : List Happening
@@ -126,11 +149,6 @@ note-apart s events moment notice which before = record {
         within-more (length items) (length (late ++ items)) own (omega (arith, length-append late items))
         (own_entries-within s events name) in
         none-some (pending_id own (item ∷ (late ++ items))) (pending_id-ended own item (late ++ items) within refl) p2
-
-    pending : is_some (pending_at (host items) n past items) ≡ true
-    pending = pending_id-more (flat_map (λ (name : List ℕ). own_entries n name past) (option_to_list (host items))) late items
-        (subst (λ (by : Option (List ℕ)). is_some (pending_at by n past (late ++ items)) ≡ true) kept.host
-        (noted-loaded t (pending_load t past) notice which))
 
 notes-apart : (s : Site) (events : List RoomEvent) (moment : ℕ) (notice : Notice) (which : Noted)
     → noted_by (table_noted s (past_of s events) moment notice)

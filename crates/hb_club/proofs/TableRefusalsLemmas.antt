@@ -12,29 +12,33 @@ use Rattle.hb_club.specs.declared.replies.Refusal.{Refusal}
 use Rattle.hb_club.specs.declared.replies.Refusal.TheVariants as refusal
 use Rattle.hb_club.specs.declared.replies.Reply.{Reply}
 use Rattle.hb_club.specs.declared.replies.Reply.TheVariants.{Done, Refused}
-use Rattle.hb_club.specs.CommandKinds.{asked_shadow, is_for_beginning, is_for_game, is_for_gathering, is_for_host, is_open, is_sit, is_start}
+use Rattle.hb_club.specs.CommandKinds.{asked_action, asked_shadow, is_act, is_close, is_for_beginning, is_for_game, is_for_gathering, is_for_host, is_open, is_pause, is_resume, is_review_step, is_sit, is_start}
+use Rattle.hb_club.specs.EndedReplays.{Finished}
 use Rattle.hb_club.specs.KeptReplies.{OwnEntry, is_done, kept_entry, pending_id}
 use Rattle.hb_club.specs.Seating.{seated_names}
-use Rattle.hb_club.specs.Table.{Table, player_count}
-use Rattle.hb_club.specs.TableItems.{is_host, is_standing, is_started}
-use Rattle.hb_club.specs.TableRefusals.{end_rows, first_reply, for_some, game_rows, is_beyond, kept_reply, opens_next, own_for, reply_by, seat_rows, serial_rows, start_rows, when}
+use Rattle.hb_club.specs.Table.{Table, has_ended, is_paused, player_count, seat_of}
+use Rattle.hb_club.specs.TableItems.{acts, is_host, is_standing, is_started, steps}
+use Rattle.hb_club.specs.TableReview.{reviewed_game, step_refusal}
+use Rattle.hb_club.specs.TableRefusals.{act_rule, end_rows, first_reply, for_some, game_rows, is_beyond, kept_reply, opens_next, own_for, reply_by, seat_rows, serial_rows, start_rows, when}
 
 -- a row that refuses if it holds
-abbrev refuses : Option Reply → Bool
+abbrev pub refuses : Option Reply → Bool
 refuses None = true
 refuses (Some Done) = false
 refuses (Some (Refused why)) = true
 
-refuses-when : (b : Bool) (why : Refusal) → refuses (when b why) ≡ true
+-- so does each row that refuses if something is so
+pub refuses-when : (b : Bool) (why : Refusal) → refuses (when b why) ≡ true
 refuses-when true why = refl
 refuses-when false why = refl
 
-one-more : (row : Option Reply) (rows : List (Option Reply)) → refuses row ≡ true → list_all refuses rows ≡ true
+-- and rows of such rows
+pub one-more : (row : Option Reply) (rows : List (Option Reply)) → refuses row ≡ true → list_all refuses rows ≡ true
     → list_all refuses (row ∷ rows) ≡ true
 one-more row rows h rest = rw (h, rest) refl
 
 -- if the reply is Done, no row holds that stands behind rows that refuse
-passed-row : (rows : List (Option Reply)) (b : Bool) (why : Refusal) (rest : List (Option Reply)) → list_all refuses rows ≡ true
+pub passed-row : (rows : List (Option Reply)) (b : Bool) (why : Refusal) (rest : List (Option Reply)) → list_all refuses rows ≡ true
     → is_done (unwrap_or (first_reply (rows ++ when b why ∷ rest)) Done) ≡ true → b ≡ false
 passed-row [] true why rest all done = cc
 passed-row [] false why rest all done = refl
@@ -42,12 +46,13 @@ passed-row (None ∷ rows) b why rest all done = passed-row rows b why rest all 
 passed-row (Some Done ∷ rows) b why rest all done = cc
 passed-row (Some (Refused other) ∷ rows) b why rest all done = cc
 
-kept_reply-none : (o : Option OwnEntry) (c : Command) → is_none o ≡ true → refuses (kept_reply o c) ≡ true
+-- where nothing is kept, no kept reply is Done
+pub kept_reply-none : (o : Option OwnEntry) (c : Command) → is_none o ≡ true → refuses (kept_reply o c) ≡ true
 kept_reply-none None c h = refl
 kept_reply-none (Some o) c h = cc
 
 -- the rows up to `TableOpen` refuse, if nothing is kept for the number
-serial_rows-refuse : (t : Table) (own : List OwnEntry) (e : Entry) → is_none (kept_entry own e.number) ≡ true
+pub serial_rows-refuse : (t : Table) (own : List OwnEntry) (e : Entry) → is_none (kept_entry own e.number) ≡ true
     → list_all refuses (serial_rows t own e) ≡ true
 serial_rows-refuse t own e fresh =
     one-more _ (drop 1 (serial_rows t own e)) (refuses-when _ _)
@@ -56,7 +61,8 @@ serial_rows-refuse t own e fresh =
     (one-more _ (drop 4 (serial_rows t own e)) (refuses-when _ _)
     (one-more _ [] (refuses-when _ _) refl))))
 
-start_rows-refuse : (t : Table) (e : Entry) → list_all refuses (start_rows t e) ≡ true
+-- and so do the rows of the start
+pub start_rows-refuse : (t : Table) (e : Entry) → list_all refuses (start_rows t e) ≡ true
 start_rows-refuse t e =
     one-more _ (drop 1 (start_rows t e)) (refuses-when _ _)
     (one-more _ (drop 2 (start_rows t e)) (refuses-when _ _)
@@ -72,7 +78,8 @@ seat_rows-refuse t e =
     (one-more _ (drop 6 (take 7 (seat_rows t e))) (refuses-when _ _)
     (one-more _ [] (refuses-when _ _) refl))))))
 
-refuse-append : (xs ys : List (Option Reply)) → list_all refuses xs ≡ true → list_all refuses ys ≡ true
+-- two lists of rows that refuse are one
+pub refuse-append : (xs ys : List (Option Reply)) → list_all refuses xs ≡ true → list_all refuses ys ≡ true
     → list_all refuses (xs ++ ys) ≡ true
 refuse-append xs ys a b = list_all-append refuses xs ys ∙ rw (a, b) refl
 
@@ -94,11 +101,13 @@ pub done-not-started : (t : Table) (own : List OwnEntry) (e : Entry) → is_for_
     → is_done (reply_by t own e) ≡ true → is_none (kept_entry own e.number) ≡ true → is_started t.items ≡ false
 done-not-started t own e gathers done fresh = (done-no-game t own e gathers done fresh).0
 
-refuses-for_some : {A : Type 0} (why : A → Refusal) (cause : Option A) → refuses (for_some why cause) ≡ true
+-- a row refuses that does so for a cause
+pub refuses-for_some : {A : Type 0} (why : A → Refusal) (cause : Option A) → refuses (for_some why cause) ≡ true
 refuses-for_some why None = refl
 refuses-for_some why (Some x) = refl
 
-not-true : (b : Bool) → not b ≡ false → b ≡ true
+-- what is not false is true
+pub not-true : (b : Bool) → not b ≡ false → b ≡ true
 not-true true h = refl
 not-true false h = cc
 
@@ -125,13 +134,15 @@ done-not-full t own e sits done fresh =
     (refuse-append (serial_rows t own e) (start_rows t e) (serial_rows-refuse t own e fresh) (start_rows-refuse t e)) done in
     rw sits at full
 
-end_rows-refuse : (t : Table) (own : List OwnEntry) (e : Entry) → list_all refuses (end_rows t own e) ≡ true
+-- the rows of the end refuse
+pub end_rows-refuse : (t : Table) (own : List OwnEntry) (e : Entry) → list_all refuses (end_rows t own e) ≡ true
 end_rows-refuse t own e =
     one-more _ (drop 1 (end_rows t own e)) (refuses-when _ _)
     (one-more _ (drop 2 (end_rows t own e)) (refuses-when _ _)
     (one-more _ [] (refuses-when _ _) refl))
 
-all_seat_rows-refuse : (t : Table) (e : Entry) → list_all refuses (seat_rows t e) ≡ true
+-- and so do those of the seats
+pub all_seat_rows-refuse : (t : Table) (e : Entry) → list_all refuses (seat_rows t e) ≡ true
 all_seat_rows-refuse t e =
     refuse-append (take 7 (seat_rows t e)) (drop 7 (seat_rows t e)) (seat_rows-refuse t e) (one-more _ [] (refuses-when _ _) refl)
 
@@ -247,3 +258,83 @@ done-two-seated t own e starts done fresh =
     (refuse-append (serial_rows t own e) (start_rows t e) (serial_rows-refuse t own e fresh) (start_rows-refuse t e))
     (seat_rows-refuse t e)) done in
     not-few (length (seated_names t.items)) (rw starts at few)
+
+-- the same of a row that refuses for a cause
+passed-cause : {A : Type 0} (rows : List (Option Reply)) (why : A → Refusal) (cause : Option A) (rest : List (Option Reply))
+    → list_all refuses rows ≡ true
+    → is_done (unwrap_or (first_reply (rows ++ for_some why cause ∷ rest)) Done) ≡ true → cause ≡ None
+passed-cause [] why (Some x) rest all done = cc
+passed-cause [] why None rest all done = refl
+passed-cause (None ∷ rows) why cause rest all done = passed-cause rows why cause rest all done
+passed-cause (Some Done ∷ rows) why cause rest all done = cc
+passed-cause (Some (Refused other) ∷ rows) why cause rest all done = cc
+
+-- the rows in front of those of the game
+abbrev pub rows_before : Table → List OwnEntry → Entry → List (Option Reply)
+rows_before t own e = serial_rows t own e ++ start_rows t e ++ seat_rows t e ++ end_rows t own e
+
+-- they refuse
+pub rows_before-refuse : (t : Table) (own : List OwnEntry) (e : Entry) → is_none (kept_entry own e.number) ≡ true
+    → list_all refuses (rows_before t own e) ≡ true
+rows_before-refuse t own e fresh =
+    refuse-append (serial_rows t own e ++ start_rows t e ++ seat_rows t e) (end_rows t own e)
+    (refuse-append (serial_rows t own e ++ start_rows t e) (seat_rows t e)
+    (refuse-append (serial_rows t own e) (start_rows t e) (serial_rows-refuse t own e fresh) (start_rows-refuse t e))
+    (all_seat_rows-refuse t e)) (end_rows-refuse t own e)
+
+-- who acts, pauses or resumes does so where the clock lets it
+pub done-in-time : (t : Table) (own : List OwnEntry) (e : Entry) → is_done (reply_by t own e) ≡ true
+    → is_none (kept_entry own e.number) ≡ true
+    → ((is_act e.command && is_paused t) || (is_pause e.command && (not t.options.timed || is_paused t || has_ended t))
+    || (is_resume e.command && not (is_paused t))) ≡ false
+done-in-time t own e done fresh =
+    passed-row (rows_before t own e ++ take 2 (game_rows t e))
+    ((is_act e.command && is_paused t) || (is_pause e.command && (not t.options.timed || is_paused t || has_ended t))
+    || (is_resume e.command && not (is_paused t))) refusal.TimerState (drop 3 (game_rows t e))
+    (refuse-append (rows_before t own e) (take 2 (game_rows t e)) (rows_before-refuse t own e fresh)
+    (one-more _ (drop 1 (take 2 (game_rows t e))) (refuses-when _ _) (one-more _ [] (refuses-when _ _) refl))) done
+
+-- what is done in the game breaks no rule
+pub done-by-rules : (t : Table) (own : List OwnEntry) (e : Entry) → is_done (reply_by t own e) ≡ true
+    → is_none (kept_entry own e.number) ≡ true
+    → act_rule t.game (acts t.items) (seat_of t e.member) (asked_action e.command) ≡ None
+done-by-rules t own e done fresh =
+    passed-cause (rows_before t own e ++ take 3 (game_rows t e)) refusal.Rule
+    (act_rule t.game (acts t.items) (seat_of t e.member) (asked_action e.command)) (drop 4 (game_rows t e))
+    (refuse-append (rows_before t own e) (take 3 (game_rows t e)) (rows_before-refuse t own e fresh)
+    (one-more _ (drop 1 (take 3 (game_rows t e))) (refuses-when _ _)
+    (one-more _ (drop 2 (take 3 (game_rows t e))) (refuses-when _ _) (one-more _ [] (refuses-when _ _) refl)))) done
+
+-- and a step that is done in the review is not refused by it
+pub done-in-review : (t : Table) (own : List OwnEntry) (e : Entry) → is_done (reply_by t own e) ≡ true
+    → is_none (kept_entry own e.number) ≡ true
+    → step_refusal (reviewed_game t.loaded t.game t.items) (steps t.items) e.command ≡ None
+done-in-review t own e done fresh =
+    passed-cause (rows_before t own e ++ take 6 (game_rows t e)) refusal.Review
+    (step_refusal (reviewed_game t.loaded t.game t.items) (steps t.items) e.command) []
+    (refuse-append (rows_before t own e) (take 6 (game_rows t e)) (rows_before-refuse t own e fresh)
+    (one-more _ (drop 1 (take 6 (game_rows t e))) (refuses-when _ _)
+    (one-more _ (drop 2 (take 6 (game_rows t e))) (refuses-when _ _)
+    (one-more _ (drop 3 (take 6 (game_rows t e))) (refuses-when _ _)
+    (one-more _ (drop 4 (take 6 (game_rows t e))) (refuses-for_some refusal.Rule _)
+    (one-more _ (drop 5 (take 6 (game_rows t e))) (refuses-when _ _) (one-more _ [] (refuses-when _ _) refl))))))) done
+
+not-neither : (b : Bool) (o : Option Finished) → (not b && is_none o) ≡ false → (b || is_some o) ≡ true
+not-neither true o h = refl
+not-neither false (Some r) h = refl
+not-neither false None h = cc
+
+-- who steps in a review does so where a game has ended or was loaded
+pub done-reviewing : (t : Table) (own : List OwnEntry) (e : Entry) → is_review_step e.command ≡ true
+    → is_done (reply_by t own e) ≡ true → is_none (kept_entry own e.number) ≡ true → (has_ended t || is_some t.loaded) ≡ true
+done-reviewing t own e reviews done fresh =
+    let no-review : Bool = is_review_step e.command && not (has_ended t) && is_none t.loaded in
+    let still-runs : Bool = is_close e.command && is_started t.items && not (has_ended t) in
+    let none : (no-review || still-runs) ≡ false =
+    passed-row (serial_rows t own e ++ start_rows t e ++ seat_rows t e) (no-review || still-runs) refusal.NotFinished
+    (drop 1 (end_rows t own e) ++ game_rows t e)
+    (refuse-append (serial_rows t own e ++ start_rows t e) (seat_rows t e)
+    (refuse-append (serial_rows t own e) (start_rows t e) (serial_rows-refuse t own e fresh) (start_rows-refuse t e))
+    (all_seat_rows-refuse t e)) done in
+    let parts : (no-review ≡ false) × (still-runs ≡ false) = or_parts no-review still-runs none in
+    not-neither (has_ended t) t.loaded (rw reviews at parts.0)
