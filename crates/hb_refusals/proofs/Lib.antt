@@ -1,0 +1,4 @@
+pub mod KeptRepliesLemmas
+pub mod OptionLemmas
+pub mod OwnEntriesLemmas
+pub mod RowLemmas
