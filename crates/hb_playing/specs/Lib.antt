@@ -1,0 +1,10 @@
+pub mod Games
+pub mod Clocks
+pub mod Seats
+pub mod Deals
+pub mod SetNotes
+pub mod HeldNotes
+pub mod Notes
+pub mod KeptRows
+pub mod Loads
+pub mod Reviews
