@@ -1,0 +1,9 @@
+pub mod Replies
+pub mod Streams
+pub mod Errands
+pub mod Turns
+pub mod Sessions
+pub mod TalkLaws
+pub mod Keeping
+pub mod ClerkRounds
+pub mod Scripts
