@@ -1,0 +1,9 @@
+pub mod Bindings
+pub mod PlainHalls
+pub mod KeeperSteps
+pub mod ClerkReports
+pub mod ClerkRounds
+pub mod ClerkStops
+pub mod RoundSteps
+pub mod KeptOnce
+pub mod RoundLaws
