@@ -1,6 +1,6 @@
 //! Which row is kept of a game?
 
-ghost use Rattle.std.specs.Prelude.{◌≡◌, IfOk, length};
+ghost use Rattle.std.specs.Prelude.{◌≡◌, IfOk, IsErrOf, length};
 ghost use Rattle.hb_rules.specs.Numbers.{state_number};
 ghost use Rattle.hb_replay.specs.Canonical.{canonical_text};
 ghost use Rattle.hb_replay.specs.Contents.{contents};
@@ -17,6 +17,26 @@ use hb_replay::{OfGameError, Replay, of_game, write};
 use hb_rules::EndHow;
 use hb_turns::Game;
 use std::alloc::{AllocError, Global};
+
+/// Why no row is made of a game.
+#[derive(Clone, Copy, PartialEq, Eq, Debug)]
+pub enum RowError {
+    /// 1: the names are not those of the game, or its times are none that a replay can hold. It is
+    /// so of no game that a room starts.
+    Differs,
+    /// 2: memory ran out.
+    NoMemory,
+}
+
+impl From<AllocError> for RowError {
+    ghost use Rattle.hb_playing.specs.declared.kept_rows.RowError.TheVariants as cause;
+
+    ghost from_gives = { λ _ error. error ≡ cause.NoMemory };
+
+    fn from(_: AllocError) -> Self {
+        RowError::NoMemory
+    }
+}
 
 /// The number of how a game stands; 0 while it runs.
 fn state_number(ended: Option<EndHow>) -> u8
@@ -44,18 +64,19 @@ fn game_replay(
     variant_name: &Text,
     game: &Game,
     notes: &Notebook,
-) -> Result<Replay, AllocError>
-    requires { IsKeepable names.now variant_name.now game.now }
-    ensures { let size = length game.now.setup.deck.items in
+) -> Result<Replay, RowError>
+    ensures replay { let size = length game.now.setup.deck.items in
         IfOk result (λ replay. replay ≡ contents names.now variant_name.now game.now
         (note_lists names.now size notes.now.notes)) }
+    ensures differs { IsErrOf result RowError.Differs
+        → IsKeepable names.now variant_name.now game.now → ⊥ }
 {
     let players = name_texts(alloc, names)?;
     let lists = notes.lists(alloc, names, deck_size(game))?;
     match of_game(alloc, &players, variant_name.as_str(), game, &lists) {
         Ok(replay) => Ok(replay),
-        Err(OfGameError::NoMemory) => Err(AllocError),
-        Err(OfGameError::Differs) => unreachable!(),
+        Err(OfGameError::NoMemory) => Err(RowError::NoMemory),
+        Err(OfGameError::Differs) => Err(RowError::Differs),
     }
 }
 
@@ -78,14 +99,15 @@ fn game_text(
     variant_name: &Text,
     game: &Game,
     notes: &Notebook,
-) -> Result<Text, AllocError>
-    requires { IsKeepable names.now variant_name.now game.now }
-    ensures { let size = length game.now.setup.deck.items in
+) -> Result<Text, RowError>
+    ensures text { let size = length game.now.setup.deck.items in
         IfOk result (λ text. text ≡ game_text names.now variant_name.now game.now
         (note_lists names.now size notes.now.notes)) }
+    ensures differs { IsErrOf result RowError.Differs
+        → IsKeepable names.now variant_name.now game.now → ⊥ }
 {
     let replay = game_replay(alloc, names, variant_name, game, notes)?;
-    replay_text(alloc, &replay)
+    Ok(replay_text(alloc, &replay)?)
 }
 
 /// A copy of the names.
@@ -107,10 +129,11 @@ pub fn row(
     variant_name: &Text,
     game: &Game,
     notes: &Notebook,
-) -> Result<GameRow, AllocError>
-    requires { IsKeepable names.now variant_name.now game.now }
-    ensures { IfOk result (λ row.
+) -> Result<GameRow, RowError>
+    ensures row { IfOk result (λ row.
         row ≡ row_with names.now variant_name.now game.now notes.now.notes) }
+    ensures differs { IsErrOf result RowError.Differs
+        → IsKeepable names.now variant_name.now game.now → ⊥ }
 {
     let text = game_text(alloc, names, variant_name, game, notes)?;
     Ok(GameRow {

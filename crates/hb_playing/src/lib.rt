@@ -23,7 +23,7 @@ mod set_notes;
 pub use clocks::{Lapse, apply, due, is_paused, pause, resume, timer_for, turn};
 pub use deals::{DealError, deal};
 pub use games::{asked_action, broken, card_count, is_ended, player_count, take};
-pub use kept_rows::row;
+pub use kept_rows::{RowError, row};
 pub use loads::{LoadedGame, read_kept};
 pub use notes::Notebook;
 pub use reviews::{GameReview, review_of, review_refusal, review_step, step_item};

@@ -5,13 +5,13 @@ use Rattle.hb_replay.specs.Contents.{notes_fit}
 use Rattle.hb_playing.proofs.NotesLemmas.{note_lists-fit}
 use Rattle.hb_playing.proofs.kept_rows.game_replay.Goals as goal
 
-pub unreachable-requires : goal.unreachable-requires
-unreachable-requires c =
+pub returns-clause-differs : goal.returns-clause-differs
+returns-clause-differs c is keepable =
     c.in-Err-Differs.ensures.differs.0 (ap Err c.in-Err-Differs.field-0-is) (record {
-      seats = ap length c.in_ok-players.ensures ∙ c.requires.seats;
-      named = ap variant_of c.as_str.ensures ∙ c.requires.named;
-      times = c.requires.times;
+      seats = ap length c.in_ok-players.ensures ∙ keepable.seats;
+      named = ap variant_of c.as_str.ensures ∙ keepable.named;
+      times = keepable.times;
       notes = ap notes_fit c.in_ok-lists.ensures ∙ note_lists-fit c.args.names.now c.deck_size.result c.args.notes.now.notes
-          (omega (arith, c.requires.seats, c.deck_size.ensures.played.fair.six))
+          (omega (arith, keepable.seats, c.deck_size.ensures.played.fair.six))
           (omega (arith, c.deck_size.ensures.size, c.deck_size.ensures.played.fair.long));
     })
