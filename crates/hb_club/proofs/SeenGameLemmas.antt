@@ -68,7 +68,8 @@ timer_calls-same h g all ends (i ∷ items) more e = step i.what e (timer_calls-
     step (what.Reviewed turn hypos action) e ih = ih more e
     step what.Closed e ih = ih more e
 
-acts-append : (more before : List Item) → acts (more ++ before) ≡ acts more ++ acts before
+-- the acts of more items, behind those before
+pub acts-append : (more before : List Item) → acts (more ++ before) ≡ acts more ++ acts before
 acts-append more before = filter_map-append (λ (i : Item). act_in i.what) more before
 
 -- what a blind set sees of a started game

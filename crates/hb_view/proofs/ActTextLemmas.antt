@@ -12,6 +12,7 @@ use Rattle.hb_rules.specs.Setup.{Position}
 use Rattle.hb_timer.specs.declared.timing.TimerCall.{TimerCall}
 use Rattle.hb_timer.specs.declared.timing.TimerCall.TheVariants.{Stops, TurnEnds}
 use Rattle.hb_turns.specs.GameInvariant.{IsPlayed}
+use Rattle.hb_club.proofs.SeenGameLemmas.{acts-append}
 use Rattle.hb_club.specs.declared.answers.Answered.{Answered}
 use Rattle.hb_club.specs.declared.items.Item.{Item}
 use Rattle.hb_club.specs.declared.items.Viewer.{Viewer}
@@ -31,7 +32,7 @@ use Rattle.hb_view.specs.GameTexts.{piece_lines}
 use Rattle.hb_view.specs.StreamViews.{IsStream}
 use Rattle.hb_view.specs.Writing.{Writes, Writing}
 use Rattle.hb_view.proofs.ClockLemmas.{clock_texts-lines, kept_clock-call}
-use Rattle.hb_view.proofs.ShownGameLemmas.{PlaysAs, acts-append, answered-plays, game_lines-piece, legal-first, not-both, seen_game-none, some-none, started-behind}
+use Rattle.hb_view.proofs.ShownGameLemmas.{PlaysAs, answered-plays, game_lines-piece, legal-first, not-both, seen_game-none, some-none, started-behind}
 use Rattle.hb_view.proofs.StartTextLemmas.{order-at}
 
 abbrev acted : ℕ → Act → Item

@@ -14,6 +14,7 @@ use Rattle.hb_turns.specs.GameInvariant.{IsPlayed}
 use Rattle.hb_turns.specs.Prefixes.{first_acts}
 use Rattle.hb_wire.specs.declared.lines.WireLine.{WireLine}
 use Rattle.hb_wire.specs.WireLine.{line_text}
+use Rattle.hb_club.proofs.SeenGameLemmas.{acts-append}
 use Rattle.hb_club.specs.declared.answers.Answered.{Answered}
 use Rattle.hb_club.specs.declared.items.Item.{Item}
 use Rattle.hb_club.specs.declared.items.Viewer.{Viewer}
@@ -29,7 +30,7 @@ use Rattle.hb_view.specs.Cursors.{IsKeptGame, Written}
 use Rattle.hb_view.specs.Pumps.{Pumps}
 use Rattle.hb_view.specs.StreamViews.{IsStream}
 use Rattle.hb_view.specs.Writing.{Begins, IsResumed, Writes, WritesAll, WritesList, WritesOn, Writing, line_alone}
-use Rattle.hb_view.proofs.ShownGameLemmas.{PlaysAs, acts-append, answered-plays, not-both, seen_game-none, some-none, started-later}
+use Rattle.hb_view.proofs.ShownGameLemmas.{PlaysAs, answered-plays, not-both, seen_game-none, some-none, started-later}
 
 -- an item with a line alone
 

@@ -24,14 +24,10 @@ use Rattle.hb_club.specs.Seating.{players}
 use Rattle.hb_club.specs.Table.{Table}
 use Rattle.hb_club.specs.TableItems.{act_in, acts, first_of_all, is_started, names_in}
 use Rattle.hb_club.specs.Views.{LoadedView, View, blind_of, pieces_for, view_as}
-use Rattle.hb_club.proofs.SeenGameLemmas.{acts-shown, first-told, seen_game-answered, seen_game-seen}
+use Rattle.hb_club.proofs.SeenGameLemmas.{acts-append, acts-shown, first-told, seen_game-answered, seen_game-seen}
 use Rattle.hb_talk.specs.Streams.{clock_lines, game_lines, newest_piece, pieces_at, standing_lines}
 use Rattle.hb_view.specs.GameTexts.{piece_lines}
 use Rattle.hb_view.specs.StreamViews.{IsStream}
-
--- the acts of longer items
-pub acts-append : (more before : List Item) → acts (more ++ before) ≡ acts more ++ acts before
-acts-append more before = filter_map-append (λ (i : Item). act_in i.what) more before
 
 -- a start stays
 first_of_all-behind : {A : Type 0} (xs ys : List A) → is_some (first_of_all ys) ≡ true → is_some (first_of_all (xs ++ ys)) ≡ true
