@@ -1,5 +1,5 @@
 -- What does each kind of turn leave of a session, of the texts and of the lists?
-use Rattle.std.proofs.Common.{◌≡◌, ℕ, ◌≤◌, Bool, true, false, List, [], ◌∷◌, ◌++◌, length, refl, sym, ◌∙◌, ap, subst, arith, Some, None}
+use Rattle.std.proofs.Common.{◌≡◌, ℕ, ◌≤◌, Bool, true, false, List, [], ◌∷◌, ◌++◌, refl, ◌∙◌, ap, subst, Some, None}
 use Rattle.std.specs.Prelude.{Option, ◌==◌, ⊤}
 use Rattle.hb_club.specs.declared.answers.Answered.{Answered}
 use Rattle.hb_club.specs.declared.commands.Entry.{Entry}
@@ -20,7 +20,7 @@ use Rattle.hb_talk.specs.declared.errands.Errand.TheVariants as errand
 use Rattle.hb_talk.specs.declared.sessions.Marks.{Marks}
 use Rattle.hb_talk.specs.declared.sessions.Session.{Session}
 use Rattle.hb_talk.specs.Replies.{denied_line, lobby_line}
-use Rattle.hb_talk.specs.Sessions.{MarksFit, Turned, marks_after, seen_of}
+use Rattle.hb_talk.specs.Sessions.{MarksFit, marks_after, seen_of}
 use Rattle.hb_talk.specs.Turns.{bound_name, marks_of, own_lines, reply_lines, turn_of}
 use Rattle.hb_desk.specs.declared.desks.Desk.{Desk}
 use Rattle.hb_desk.specs.AnswerSteps.{Follows, Wrote}

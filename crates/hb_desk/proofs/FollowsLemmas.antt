@@ -1,5 +1,5 @@
 -- Is the cursor of a session where the answer of its room begins? Yes, if it fitted the lists before.
-use Rattle.std.proofs.Common.{◌≡◌, ℕ, ◌+◌, ◌-◌, ◌≤◌, Bool, true, false, List, [], ◌∷◌, ◌++◌, length, drop, refl, sym, ◌∙◌, ap, subst, arith, length-append, Some, None}
+use Rattle.std.proofs.Common.{◌≡◌, ℕ, ◌+◌, ◌-◌, ◌≤◌, List, ◌∷◌, ◌++◌, length, drop, refl, sym, ◌∙◌, ap, subst, arith, length-append, Some, None}
 use Rattle.std.proofs.Math.Seq.{drop-append_seam}
 use Rattle.std.specs.Prelude.{Option, ◌==◌}
 use Rattle.hb_review.specs.Reviews.{first_of}
@@ -8,17 +8,15 @@ use Rattle.hb_club.specs.declared.items.Item.{Item}
 use Rattle.hb_club.specs.Fronts.{Fronts, GoesOn, House, site_of}
 use Rattle.hb_club.specs.HallAnswers.{Shows, items_from, seen_from}
 use Rattle.hb_club.specs.RoomEvents.{RoomEvent, Site}
-use Rattle.hb_club.specs.Rooms.{table_at}
 use Rattle.hb_club.specs.Views.{View, view_at}
 use Rattle.hb_club.specs.WholeGames.{BringWhole}
 use Rattle.hb_club.proofs.RoomsLemmas.{items-go-on}
-use Rattle.hb_house.proofs.GoesOnLemmas.{goes_on-same, goes_on-trans}
+use Rattle.hb_house.proofs.GoesOnLemmas.{goes_on-trans}
 use Rattle.hb_view.specs.declared.cursors.Cursor.{Cursor}
 use Rattle.hb_view.specs.Cursors.{Written}
-use Rattle.hb_view.specs.StreamViews.{IsStream}
 use Rattle.hb_view.proofs.StreamLawLemmas.{cursors-go-on, views-are-streams}
 use Rattle.hb_talk.specs.declared.sessions.Marks.{Marks}
-use Rattle.hb_talk.specs.Sessions.{MarksFit, seen_of}
+use Rattle.hb_talk.specs.Sessions.{seen_of}
 use Rattle.hb_talk.specs.Turns.{marked_count, marks_of}
 use Rattle.hb_desk.specs.AnswerSteps.{Follows}
 use Rattle.hb_desk.specs.Desks.{CursorFits}

@@ -1,6 +1,6 @@
 -- What is so of a table at which a command is done that opens, acts, notes or closes?
 use Rattle.std.proofs.Common.{◌≡◌, ℕ, Bool, true, false, List, [], ◌∷◌, ◌++◌, refl, drop, take, Some, None, Option}
-use Rattle.std.specs.Prelude.{◌&&◌, ◌||◌, ◌==◌, is_none, is_some, nat_lt, not, unwrap_or}
+use Rattle.std.specs.Prelude.{◌&&◌, ◌||◌, ◌==◌, is_none, is_some, nat_lt, not}
 use Rattle.std.specs.List.{list_all}
 use Rattle.std.proofs.lemmas.Bool.{or_parts}
 use Rattle.hb_rules.specs.declared.acts.Action.{Action}
@@ -9,15 +9,12 @@ use Rattle.hb_rules.specs.declared.setups.Setup.{Setup}
 use Rattle.hb_rules.proofs.Rules.{may_runs}
 use Rattle.hb_club.specs.declared.commands.Entry.{Entry}
 use Rattle.hb_club.specs.declared.items.Item.{Item}
-use Rattle.hb_club.specs.declared.replies.Refusal.{Refusal}
 use Rattle.hb_club.specs.declared.replies.Refusal.TheVariants as refusal
-use Rattle.hb_club.specs.declared.replies.Reply.{Reply}
-use Rattle.hb_club.specs.declared.replies.Reply.TheVariants.{Done, Refused}
-use Rattle.hb_club.specs.CommandKinds.{asked_action, is_act, is_close, is_note, is_open, is_pause, is_resume, is_review_step}
+use Rattle.hb_club.specs.CommandKinds.{asked_action, is_close, is_note, is_open, is_review_step}
 use Rattle.hb_club.specs.KeptReplies.{OwnEntry, is_done, kept_entry}
-use Rattle.hb_club.specs.Table.{Table, has_ended, is_paused, seat_of}
+use Rattle.hb_club.specs.Table.{Table, has_ended, seat_of}
 use Rattle.hb_club.specs.TableItems.{acts, has, is_saved, is_standing, is_started}
-use Rattle.hb_club.specs.TableRefusals.{act_rule, end_rows, first_reply, for_some, game_rows, opens_next, own_for, reply_by, seat_rows, serial_rows, start_rows}
+use Rattle.hb_club.specs.TableRefusals.{act_rule, end_rows, game_rows, opens_next, own_for, reply_by, seat_rows, serial_rows, start_rows}
 use Rattle.hb_club.specs.TableReview.{game_end}
 use Rattle.hb_club.proofs.TableInvariantLemmas.{IsFresh}
 use Rattle.hb_club.proofs.TableRefusalsLemmas.{all_seat_rows-refuse, done-by-rules, done-here, kept_reply-none, not-true, one-more, passed-row, refuse-append, refuses, refuses-for_some, refuses-when, rows_before, rows_before-refuse, serial_rows-refuse, start_rows-refuse}

@@ -1,38 +1,28 @@
 -- Does a game that is due stay due until it is noted as kept? Yes, at the table where it was played.
-use Rattle.std.proofs.Common.{◌≡◌, ℕ, ◌+◌, Bool, true, false, List, [], ◌∷◌, ◌++◌, refl, ap, sym, subst, ◌∙◌, arith, inl, inr, Some, None, Option, if◌then◌else◌}
+use Rattle.std.proofs.Common.{◌≡◌, ℕ, ◌+◌, Bool, true, false, List, [], ◌∷◌, ◌++◌, refl, ap, sym, subst, ◌∙◌, inl, inr, Some, None, Option, if◌then◌else◌}
 use Rattle.std.specs.Prelude.{◌&&◌, ◌==◌, ◌⊎◌, is_some, not}
-use Rattle.std.proofs.lemmas.Bool.{and_from, and_parts}
-use Rattle.std.proofs.lemmas.Bool.Decides.{Decides-eqb}
+use Rattle.std.proofs.lemmas.Bool.{and_parts}
 use Rattle.hb_rules.specs.declared.setups.Setup.{Setup}
-use Rattle.hb_keeper.specs.declared.rows.GameRow.{GameRow}
-use Rattle.hb_keeper.specs.declared.rows.Key.{Key}
-use Rattle.hb_club.specs.declared.clerks.ClerkNote.TheVariants as note
-use Rattle.hb_club.specs.declared.clerks.Noted.{Noted}
 use Rattle.hb_club.specs.declared.clerks.Noted.TheVariants as noted
 use Rattle.hb_club.specs.declared.items.Item.{Item}
 use Rattle.hb_club.specs.declared.items.What.{What}
 use Rattle.hb_club.specs.declared.items.What.TheVariants as what
-use Rattle.hb_club.specs.ClerkCalls.{is_due, noted_by, noted_item, pending_load}
-use Rattle.hb_club.specs.Fronts.{GoesOn}
-use Rattle.hb_club.specs.NewItems.{stamp_at, stamped_item}
-use Rattle.hb_club.specs.RoomEvents.{Added, AsksTodo, Happening, Outcome, RoomEvent, Site, in_time, note_event}
-use Rattle.hb_club.specs.Rooms.{answer_to, happening, past_of}
+use Rattle.hb_club.specs.ClerkCalls.{is_due}
+use Rattle.hb_club.specs.NewItems.{stamped_item}
+use Rattle.hb_club.specs.RoomEvents.{Happening, RoomEvent, Site}
+use Rattle.hb_club.specs.Rooms.{happening, past_of}
 use Rattle.hb_club.specs.Table.{Table, has_ended}
 use Rattle.hb_club.specs.TableFacts.{table_of}
 use Rattle.hb_club.specs.TableItems.{has, is_saved, is_standing, is_started}
 use Rattle.hb_club.specs.TableReview.{game_end}
 use Rattle.hb_club.specs.TimeFirst.{timed_table, timeout, timeout_when}
 use Rattle.hb_club.proofs.TimeFirstLemmas.{item_at, timeout-all}
-use Rattle.hb_house.specs.declared.reports.Report.{Report}
-use Rattle.hb_house.specs.ClerkReports.{with_saved}
-use Rattle.hb_house.specs.ClerkRounds.{Round, Saves, TakesNote}
-use Rattle.hb_house.specs.KeeperSteps.{Telling}
-use Rattle.hb_house.specs.RoundLaws.{AloneSaves, DueAreSaved, WasSaved}
+use Rattle.hb_house.specs.RoundLaws.{WasSaved}
 use Rattle.hb_house.proofs.CalmItemsLemmas.{calm-event, is_calm_if}
-use Rattle.hb_house.proofs.DueRowsLemmas.{answered-due, game-started, some-game, started-over}
-use Rattle.hb_house.proofs.GoesOnLemmas.{goes_on-same, goes_on-trans, loads-on}
+use Rattle.hb_house.proofs.DueRowsLemmas.{game-started, some-game, started-over}
+use Rattle.hb_house.proofs.GoesOnLemmas.{goes_on-same, goes_on-trans}
 use Rattle.hb_house.proofs.MayComeLemmas.{Adds, MayCome, MayComeIf, event-adds}
-use Rattle.hb_house.proofs.StoppedClockLemmas.{Before, opened-after, past_of-before, started-after, time-over}
+use Rattle.hb_house.proofs.StoppedClockLemmas.{opened-after, past_of-before, started-after, time-over}
 
 -- a table stands while its game is due
 

@@ -1,10 +1,10 @@
 -- Does a load stay pending until an item ends it? Yes, at the table that asked for it.
-use Rattle.std.proofs.Common.{◌≡◌, ℕ, ◌+◌, ◌-◌, ◌<◌, ◌≤◌, ◌⊎◌, inl, inr, Bool, true, false, List, [], ◌∷◌, ◌++◌, refl, ap, arith, sym, subst, ◌∙◌, append_assoc, length, length-append, take, Some, None, Option}
-use Rattle.std.specs.Prelude.{◌&&◌, ◌||◌, ◌==◌, bytes_eq, flat_map, is_none, is_some, nat_le, not, if◌then◌else◌}
+use Rattle.std.proofs.Common.{◌≡◌, ℕ, ◌+◌, ◌-◌, ◌<◌, ◌≤◌, ◌⊎◌, inl, inr, Bool, true, false, List, [], ◌∷◌, ◌++◌, refl, ap, arith, sym, ◌∙◌, length, length-append, take, Some, None, Option}
+use Rattle.std.specs.Prelude.{◌&&◌, ◌||◌, ◌==◌, bytes_eq, is_some, nat_le, if◌then◌else◌}
 use Rattle.std.specs.List.{list_any}
 use Rattle.std.specs.Option.{option_to_list}
 use Rattle.std.proofs.Math.Seq.{take-append-add}
-use Rattle.std.proofs.lemmas.Bool.{and_parts, or_cases, or_parts}
+use Rattle.std.proofs.lemmas.Bool.{and_parts, or_cases}
 use Rattle.std.proofs.lemmas.List.{append-nil}
 use Rattle.std.proofs.lemmas.List.Folds.{list_any-append}
 use Rattle.hb_rules.specs.declared.setups.Setup.{Setup}
@@ -15,25 +15,22 @@ use Rattle.hb_club.specs.declared.items.Item.{Item}
 use Rattle.hb_club.specs.declared.items.What.{What}
 use Rattle.hb_club.specs.declared.items.What.TheVariants as what
 use Rattle.hb_club.specs.ClerkCalls.{pending_load}
-use Rattle.hb_club.specs.CommandKinds.{asked_id, is_for_beginning}
+use Rattle.hb_club.specs.CommandKinds.{asked_id}
 use Rattle.hb_club.specs.KeptReplies.{OwnEntry, accepted_load, pending_id, still_pending}
 use Rattle.hb_club.specs.NewItems.{stamped_item}
 use Rattle.hb_club.specs.RoomEvents.{AsksTodo, Call, Happening, Notes, RoomEvent, Site, event_moment}
-use Rattle.hb_club.specs.Rooms.{happening, past_of}
+use Rattle.hb_club.specs.Rooms.{happening}
 use Rattle.hb_club.specs.Table.{Table}
-use Rattle.hb_club.specs.TableFacts.{own_by, own_entries, record_of, table_of}
-use Rattle.hb_club.specs.TableItems.{ends_load, has, host, is_closed, is_host, is_opened, is_standing, latest_items, opened_count}
+use Rattle.hb_club.specs.TableFacts.{own_entries, table_of}
+use Rattle.hb_club.specs.TableItems.{ends_load, has, host, is_host, is_standing, opened_count}
 use Rattle.hb_club.specs.TableRefusals.{is_accepted, own_for}
 use Rattle.hb_club.specs.TimeFirst.{timed_table, timeout}
-use Rattle.hb_club.proofs.OwnEntriesLemmas.{own_entries-within}
-use Rattle.hb_club.proofs.PendingLemmas.{accepted_load-quiet, are_within, is_quiet, is_within, pending_id-ended}
-use Rattle.hb_club.proofs.RoomsLemmas.{latest_items-append, opened_count-append}
+use Rattle.hb_club.proofs.PendingLemmas.{accepted_load-quiet, are_within, is_quiet, is_within}
 use Rattle.hb_club.proofs.TableInvariantLemmas.{IsFresh}
 use Rattle.hb_club.proofs.TableLoadsLemmas.{HeadsAreQuiet, QuietHead, call-quiet, own_of, same-name, table_for}
 use Rattle.hb_club.proofs.TableRefusalsLemmas.{done-here, done-host, done-not-loading}
-use Rattle.hb_club.proofs.TimeFirstLemmas.{item_at, timeout-all}
+use Rattle.hb_club.proofs.TimeFirstLemmas.{timeout-all}
 use Rattle.hb_house.proofs.DoneLemmas.{done-standing}
-use Rattle.hb_house.proofs.MayComeLemmas.{Adds, MayComeIf, event-adds}
 
 -- items that open no table come on top of others
 

@@ -1,12 +1,9 @@
 -- Is a load that was pending ended behind the round of its room? Yes, by its note or by a closing.
 use Rattle.std.proofs.Common.{◌≡◌, ℕ, ◌+◌, ◌≤◌, ◌⊎◌, inl, inr, Bool, true, false, List, [], ◌∷◌, ◌++◌, refl, ap, arith, sym, subst, ◌∙◌, append_assoc, length, length-append, Some, None, Option}
 use Rattle.std.specs.Prelude.{◌&&◌, ◌||◌, ◌==◌, is_some, not, option_map, if◌then◌else◌}
-use Rattle.std.specs.Option.{option_to_list}
 use Rattle.std.proofs.lemmas.Bool.{and_from, and_parts, or_cases, or_parts}
 use Rattle.std.proofs.lemmas.Bool.Decides.{Decides-eqb}
 use Rattle.std.proofs.lemmas.List.Folds.{list_any-append}
-use Rattle.hb_keeper.specs.declared.rows.GameRow.{GameRow}
-use Rattle.hb_keeper.specs.declared.rows.Key.{Key}
 use Rattle.hb_club.specs.declared.clerks.ClerkNote.TheVariants as note
 use Rattle.hb_club.specs.declared.clerks.Noted.{Noted}
 use Rattle.hb_club.specs.declared.clerks.Noted.TheVariants as noted
@@ -19,7 +16,7 @@ use Rattle.hb_club.specs.EndedReplays.{Finished}
 use Rattle.hb_club.specs.Fronts.{GoesOn}
 use Rattle.hb_club.specs.KeptReplies.{OwnEntry, pending_id}
 use Rattle.hb_club.specs.NewItems.{stamp_at, stamped_item}
-use Rattle.hb_club.specs.RoomEvents.{AsksTodo, Due, Happening, Loaded, Notes, RoomEvent, Site, event_moment, in_time, note_event, read_text}
+use Rattle.hb_club.specs.RoomEvents.{AsksTodo, Due, Happening, Loaded, Notes, RoomEvent, Site, event_moment, in_time, read_text}
 use Rattle.hb_club.specs.Rooms.{answer_to, happening, past_of}
 use Rattle.hb_club.specs.Table.{Table}
 use Rattle.hb_club.specs.TableFacts.{own_by, own_entries, record_of, table_of}
@@ -30,9 +27,7 @@ use Rattle.hb_club.proofs.PendingLemmas.{are_within, pending_id-ended}
 use Rattle.hb_club.proofs.RoomsLemmas.{latest_items-append, opened_count-append}
 use Rattle.hb_club.proofs.TableLoadsLemmas.{HeadsAreQuiet}
 use Rattle.hb_club.proofs.TimeFirstLemmas.{item_at}
-use Rattle.hb_house.specs.declared.reports.Report.{Report}
-use Rattle.hb_house.specs.ClerkRounds.{Loads, LoadsGame, Round, text_in}
-use Rattle.hb_house.specs.KeeperSteps.{Telling}
+use Rattle.hb_house.specs.ClerkRounds.{Loads, LoadsGame, text_in}
 use Rattle.hb_house.specs.RoundLaws.{DueAreLoaded, LoadEnded}
 use Rattle.hb_house.proofs.DueTablesLemmas.{standing-time, two-tests}
 use Rattle.hb_house.proofs.GoesOnLemmas.{goes_on-same, goes_on-trans, saves-on}

@@ -1,5 +1,5 @@
 -- Is a game that was due noted as kept behind the round of its room? Yes, by this clerk or another.
-use Rattle.std.proofs.Common.{◌≡◌, ℕ, ◌+◌, Bool, true, false, List, [], ◌∷◌, ◌++◌, refl, ap, sym, subst, ◌∙◌, inl, inr, Some, None, Option, if◌then◌else◌}
+use Rattle.std.proofs.Common.{◌≡◌, ℕ, ◌+◌, Bool, true, List, [], ◌∷◌, ◌++◌, refl, ap, sym, subst, ◌∙◌, inl, inr, Some, Option, if◌then◌else◌}
 use Rattle.std.specs.Prelude.{◌&&◌, ◌==◌, ◌⊎◌, is_some, not}
 use Rattle.std.proofs.lemmas.Bool.{and_from, and_parts}
 use Rattle.std.proofs.lemmas.Bool.Decides.{Decides-eqb}
@@ -10,9 +10,7 @@ use Rattle.hb_club.specs.declared.clerks.Noted.{Noted}
 use Rattle.hb_club.specs.declared.clerks.Noted.TheVariants as noted
 use Rattle.hb_club.specs.declared.clerks.Todo.{Todo}
 use Rattle.hb_club.specs.declared.items.Item.{Item}
-use Rattle.hb_club.specs.declared.items.What.{What}
 use Rattle.hb_club.specs.ClerkCalls.{is_due, noted_by, noted_item, pending_load}
-use Rattle.hb_club.specs.Fronts.{GoesOn}
 use Rattle.hb_club.specs.NewItems.{stamp_at, stamped_item}
 use Rattle.hb_club.specs.RoomEvents.{Added, AsksTodo, Due, Happening, Notes, Outcome, RoomEvent, Saved, Site, in_time, note_event}
 use Rattle.hb_club.specs.Rooms.{answer_to, happening, past_of}
@@ -23,7 +21,7 @@ use Rattle.hb_club.specs.TableReview.{game_end}
 use Rattle.hb_club.specs.TimeFirst.{timed_table, timeout}
 use Rattle.hb_house.specs.declared.reports.Report.{Report}
 use Rattle.hb_house.specs.ClerkReports.{with_saved}
-use Rattle.hb_house.specs.ClerkRounds.{Round, Saves, SavesGame}
+use Rattle.hb_house.specs.ClerkRounds.{Saves, SavesGame}
 use Rattle.hb_house.specs.KeeperSteps.{Telling}
 use Rattle.hb_house.specs.RoundLaws.{AloneSaves, DueAreSaved, WasSaved}
 use Rattle.hb_house.proofs.CalmItemsLemmas.{calm-event, is_calm_if}

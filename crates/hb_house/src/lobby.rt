@@ -1,7 +1,6 @@
 //! How does the lobby keep who was welcomed?
 
 ghost use Rattle.std.specs.Prelude.{◌≡◌, [], None, IfOk, OnErr, bytes_eq, option_map};
-ghost use Rattle.hb_io.specs.NameSpelling.{IsName};
 ghost use Rattle.hb_club.specs.Lobby.{bound_after, bound_with, key_of, lobby_reply, reply_to};
 ghost use Rattle.hb_house.specs.Bindings.{bindings};
 

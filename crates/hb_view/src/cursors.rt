@@ -46,7 +46,7 @@ impl Cursor {
     }
 
     /// A copy of the cursor.
-    pub(crate) fn same(&self) -> Cursor
+    pub fn same(&self) -> Cursor
         ensures { result ≡ self.now }
     {
         Cursor {
