@@ -1,0 +1,13 @@
+pub mod State
+pub mod StateMoves
+pub mod Items
+pub mod Keeps
+pub mod Changes
+pub mod Verdicts
+pub mod Steps
+pub mod NewTables
+pub mod Starts
+pub mod Clerk
+pub mod Shown
+pub mod HeadMoves
+pub mod Spares
