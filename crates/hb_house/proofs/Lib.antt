@@ -20,3 +20,4 @@ pub mod DueTablesLemmas
 pub mod SavedRoundsLemmas
 pub mod PendingRoomsLemmas
 pub mod PendingStaysLemmas
+pub mod RoomMachineLemmas

@@ -26,3 +26,8 @@ pub if_err_all : {A E X Z : Type 0} {P Q : E → Type 0} (r : Result A E) → On
     → ((e : E) → X → P e → Z → Q e) → IfErr r Q
 if_err_all (Ok a) x p z go = tt
 if_err_all (Err e) x p z go = go e x p z
+
+-- what follows at each error from a fact that is so at each
+pub on_err : {A E X Y : Type 0} (r : Result A E) → (X → Y) → OnErr r X → OnErr r Y
+on_err (Ok a) go x = tt
+on_err (Err e) go x = go x

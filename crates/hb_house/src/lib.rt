@@ -14,6 +14,7 @@ mod lobby;
 mod machines;
 mod plain;
 mod reports;
+mod rooms;
 mod rounds;
 
 pub use clerks::clerk;

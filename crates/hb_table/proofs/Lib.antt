@@ -8,7 +8,7 @@ pub mod TableFactsLemmas
 pub mod ReviewStepsLemmas
 mod RowLemmas
 mod VerdictLemmas
-mod KeepsLemmas
+pub mod KeepsLemmas
 mod AddLemmas
 mod SoundLemmas
 mod TimedLemmas
