@@ -11,10 +11,7 @@ use std::test::Fail;
 /// No run of a test makes so many calls of a disk.
 const NEVER: u64 = 1_000_000;
 
-/// The disks of a store in memory.
-type Disks = Files<Fuse<Memory>>;
-
-fn opened(alloc: Global, files: Disks) -> Option<KeeperSql<FileStore<Fuse<Memory>>>> {
+fn opened<D: Disk + Drop>(alloc: Global, files: Files<D>) -> Option<KeeperSql<FileStore<D>>> {
     if !files.may_be_used() {
         return None;
     }
@@ -24,7 +21,7 @@ fn opened(alloc: Global, files: Disks) -> Option<KeeperSql<FileStore<Fuse<Memory
     }
 }
 
-fn closed(keeper: KeeperSql<FileStore<Fuse<Memory>>>) -> Disks {
+fn closed<D: Disk + Drop>(keeper: KeeperSql<FileStore<D>>) -> Files<D> {
     keeper.into_connection().into_store().close()
 }
 
@@ -36,16 +33,16 @@ fn disk(alloc: Global, bytes: &[u8], calls: u64) -> Result<Fuse<Memory>, Fail> {
     Ok(Fuse::new(memory, calls))
 }
 
-/// Disks with the bytes of these, each of which stops after so many calls.
-fn copies(alloc: Global, disks: &Disks, calls: u64) -> Result<Disks, Fail> {
+/// The disks of a store, each of which stops after so many calls.
+fn disks(alloc: Global, store: &Files<Memory>, calls: u64) -> Result<Files<Fuse<Memory>>, Fail> {
     Ok(Files {
-        log: disk(alloc, disks.log.inner().bytes(), calls)?,
-        db: disk(alloc, disks.db.inner().bytes(), calls)?,
+        log: disk(alloc, store.log.bytes(), calls)?,
+        db: disk(alloc, store.db.bytes(), calls)?,
     })
 }
 
 /// Puts the games up to the first that is not acknowledged, and answers how many are.
-fn put_all<K: Keeper>(keeper: &mut K, rows: &[GameRow]) -> usize {
+fn put_all<D: Disk + Drop>(keeper: &mut KeeperSql<FileStore<D>>, rows: &[GameRow]) -> usize {
     let mut serial = 0u32;
     for place in 0..rows.len() {
         if keeper.put_once(&key(serial), &rows[place]).is_err() {
@@ -57,7 +54,10 @@ fn put_all<K: Keeper>(keeper: &mut K, rows: &[GameRow]) -> usize {
 }
 
 /// How many of the games a store keeps: the first ones, each under its place, and no other.
-fn kept<K: Keeper>(keeper: &mut K, rows: &[GameRow]) -> Result<usize, Fail> {
+fn kept<D: Disk + Drop>(
+    keeper: &mut KeeperSql<FileStore<D>>,
+    rows: &[GameRow],
+) -> Result<usize, Fail> {
     let mut count = 0;
     for place in 0..rows.len() {
         match keeper.get(place as u64 + 1) {
@@ -70,24 +70,31 @@ fn kept<K: Keeper>(keeper: &mut K, rows: &[GameRow]) -> Result<usize, Fail> {
 }
 
 /// Opens the disks again, and tests what is kept.
-fn opens_again(
+fn opens_again<D: Disk + Drop>(
     alloc: Global,
-    disks: Disks,
+    files: Files<D>,
     rows: &[GameRow],
     acknowledged: usize,
 ) -> Result<(), Fail> {
-    let mut keeper = opened(alloc, disks).ok_or("a store opens again")?;
+    let mut keeper = opened(alloc, files).ok_or("a store opens again")?;
     if kept(&mut keeper, rows)? < acknowledged {
         Err("an acknowledged game is kept")?
     }
     Ok(())
 }
 
+fn copies(alloc: Global, files: &Files<Fuse<Memory>>) -> Result<Files<Fuse<Memory>>, Fail> {
+    Ok(Files {
+        log: disk(alloc, files.log.inner().bytes(), NEVER)?,
+        db: disk(alloc, files.db.inner().bytes(), NEVER)?,
+    })
+}
+
 /// A store without games.
-fn empty_store(alloc: Global) -> Result<Disks, Fail> {
+fn empty_store(alloc: Global) -> Result<Files<Memory>, Fail> {
     let files = Files {
-        log: disk(alloc, &[], NEVER)?,
-        db: disk(alloc, &[], NEVER)?,
+        log: Memory::new(alloc),
+        db: Memory::new(alloc),
     };
     let keeper = opened(alloc, files).ok_or("a new store opens")?;
     Ok(closed(keeper))
@@ -101,7 +108,7 @@ fn rows(alloc: Global) -> Result<Vec<GameRow>, Fail> {
     Ok(rows)
 }
 
-/// Stops both disks after each number of calls in turn, until all games are acknowledged. If the
+/// Stops both disks after each number of calls in turn, until all games are acknowledged. Where the
 /// store opens before they stop, what is left is opened again twice: with all that was written, and
 /// without what was not synced.
 #[test]
@@ -111,12 +118,12 @@ fn disks_that_stop_lose_no_acknowledged_game(rt: HostRuntime) -> Result<(), Fail
     let rows = rows(alloc)?;
     let mut is_stopped = false;
     for calls in 0..NEVER {
-        let Some(mut keeper) = opened(alloc, copies(alloc, &store, calls)?) else {
+        let Some(mut keeper) = opened(alloc, disks(alloc, &store, calls)?) else {
             continue;
         };
         let acknowledged = put_all(&mut keeper, &rows);
         let mut files = closed(keeper);
-        opens_again(alloc, copies(alloc, &files, NEVER)?, &rows, acknowledged)?;
+        opens_again(alloc, copies(alloc, &files)?, &rows, acknowledged)?;
         files.log.crash();
         files.db.crash();
         opens_again(alloc, files, &rows, acknowledged)?;

@@ -1,6 +1,7 @@
 //! Does a store in a file open again, by whomever it was made?
 
-use crate::calls::{Call, answer};
+use crate::games::{game, key};
+use hb_keeper::Keeper;
 use hb_sqlite::{KeeperSql, OpenError};
 use sqlite::Connection;
 use std::test::Fail;
@@ -21,40 +22,42 @@ pub(crate) const STATEMENTS: [&str; 6] = [
 #[test]
 fn a_closed_store_opens_again(rt: HostRuntime) -> Result<(), Fail> {
     let alloc = rt.alloc();
-    for calls in [
-        [(Call::OpenRun, "Ok(1)"), (Call::Put(1, 3), "Ok(1)")],
-        [
-            (Call::OpenRun, "Ok(2)"),
-            (Call::Get(1), "[\"Ann\", \"Bob\"] 3"),
-        ],
-    ] {
-        let opened = KeeperSql::open_file(&rt, alloc, "club.db").ok();
-        let mut keeper = opened.ok_or("a file opens")?;
-        for (call, want) in calls {
-            assert_eq!(rt; answer(alloc, &mut keeper, call)?.as_str(), want);
-        }
-        assert!(rt; keeper.close().is_ok());
-    }
+    let row = game(alloc, &["Ann", "Bob"], 3)?;
+    let Ok(mut keeper) = KeeperSql::open_file(&rt, alloc, "club.db") else {
+        panic!(rt; "a new file opens");
+    };
+    assert_eq!(rt; keeper.open_run(), Ok(1));
+    assert_eq!(rt; keeper.put_once(&key(1), &row), Ok(1));
+    assert_eq!(rt; keeper.close(), Ok(()));
+
+    let Ok(mut again) = KeeperSql::open_file(&rt, alloc, "club.db") else {
+        panic!(rt; "a kept file opens");
+    };
+    assert_eq!(rt; again.open_run(), Ok(2));
+    assert_eq!(rt; again.put_once(&key(1), &row), Ok(1));
+    assert_eq!(rt; again.get(1), Ok(Some(row)));
     Ok(())
 }
 
 #[test]
 fn a_store_made_by_its_text_is_adopted(rt: HostRuntime) -> Result<(), Fail> {
     let alloc = rt.alloc();
-    let mut conn = Connection::open(&rt, "text.db")?;
+    let Ok(mut conn) = Connection::open(&rt, "text.db") else {
+        panic!(rt; "a new file opens");
+    };
     for statement in STATEMENTS {
-        conn.execute(statement, &[])?;
+        assert!(rt; conn.execute(statement, &[]).is_ok(), "{statement}");
     }
-    let adopted = KeeperSql::adopt(alloc, conn).ok();
-    let mut keeper = adopted.ok_or("a store of this text is adopted")?;
-    assert_eq!(rt;
-        answer(alloc, &mut keeper, Call::OpenRun)?.as_str(),
-        "Ok(7)"
-    );
-    assert!(rt; keeper.close().is_ok());
+    let Ok(mut keeper) = KeeperSql::adopt(alloc, conn) else {
+        panic!(rt; "a store of this text is adopted");
+    };
+    assert_eq!(rt; keeper.open_run(), Ok(7));
+    assert_eq!(rt; keeper.close(), Ok(()));
 
-    let mut conn = Connection::open(&rt, "text.db")?;
-    conn.execute("UPDATE version SET n = 7", &[])?;
+    let Ok(mut conn) = Connection::open(&rt, "text.db") else {
+        panic!(rt; "a kept file opens");
+    };
+    assert!(rt; conn.execute("UPDATE version SET n = 7", &[]).is_ok());
     assert!(rt; conn.close().is_ok());
     let refused = KeeperSql::open_file(&rt, alloc, "text.db");
     assert!(rt; matches!(refused, Err(OpenError::BadVersion(7))));

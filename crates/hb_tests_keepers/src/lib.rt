@@ -1,9 +1,8 @@
-//! Do the keepers answer as the worked calls say, and what does a store answer over files and rows
-//! that others have written?
+//! Do the keepers answer as the worked calls say, and both alike?
 #![tactic(auto)]
 
 #[cfg(test)]
-mod calls;
+mod alike;
 #[cfg(test)]
 mod crash;
 #[cfg(test)]

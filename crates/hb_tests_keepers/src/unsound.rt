@@ -1,7 +1,9 @@
 //! What does a keeper answer over a store whose rows no keeper has written?
 
-use crate::calls::{Call, answer};
 use crate::files::STATEMENTS;
+use crate::games::{game, key};
+use hb_io::name;
+use hb_keeper::{KeepError, Keeper};
 use hb_sqlite::{KeeperSql, OpenError};
 use sqlite::{Connection, Error, MemStore};
 use std::alloc::Global;
@@ -44,38 +46,44 @@ fn a_store_of_no_single_version_is_not_opened(rt: HostRuntime) -> Result<(), Fai
     Ok(())
 }
 
-/// Makes a call over a store with these rows more, and answers what it says and what the query then
-/// shows.
-fn told(alloc: Global, more: &[&str], call: Call, query: &str) -> Result<String, Fail> {
-    let mut keeper = keeper(alloc, more)?;
-    let said = answer(alloc, &mut keeper, call)?;
-    Ok(format!(in alloc; "{said} {}", number(keeper, query)?)?)
+#[test]
+fn a_missing_run_is_a_fault(rt: HostRuntime) -> Result<(), Fail> {
+    let mut keeper = keeper(rt.alloc(), &["DELETE FROM runs"])?;
+    assert_eq!(rt; keeper.open_run(), Err(KeepError::Fault));
+    assert_eq!(rt; number(keeper, "SELECT count(*) FROM runs")?, 0);
+    Ok(())
 }
 
 #[test]
-fn rows_that_do_not_fit_are_faults_and_stay(rt: HostRuntime) -> Result<(), Fail> {
-    let no_run = ["DELETE FROM runs"];
+fn numbers_out_of_range_and_no_names_are_faults(rt: HostRuntime) -> Result<(), Fail> {
+    let alloc = rt.alloc();
     let rows = [
         "INSERT INTO games VALUES (1, 1, 1, 1, 300, 0, '{}'), (2, 1, 1, 2, 1, 0, '{}')",
         "INSERT INTO seats VALUES (1, 0, 'Ann'), (2, 0, '')",
     ];
-    let last = ["INSERT INTO games VALUES (9223372036854775807, 1, 1, 1, 1, 0, '{}')"];
-    let sum = "SELECT count(*) + sum(how) FROM games";
-    for (more, call, query, want) in [
-        (
-            no_run.as_slice(),
-            Call::OpenRun,
-            "SELECT count(*) FROM runs",
-            "Err(Fault) 0",
-        ),
-        (rows.as_slice(), Call::Get(1), sum, "Fault 303"),
-        (rows.as_slice(), Call::Get(2), sum, "Fault 303"),
-        (rows.as_slice(), Call::List, sum, "Fault 303"),
-        (rows.as_slice(), Call::Put(1, 0), sum, "Err(Fault) 303"),
-        // The greatest id is the last one.
-        (last.as_slice(), Call::Put(2, 0), sum, "Err(UsedUp) 2"),
-    ] {
-        assert_eq!(rt; told(rt.alloc(), more, call, query)?.as_str(), want);
-    }
+    let mut keeper = keeper(alloc, &rows)?;
+    let Some(ann) = name("Ann") else {
+        panic!(rt; "a name");
+    };
+    let row = game(alloc, &["Ann"], 0)?;
+    assert_eq!(rt; keeper.get(1), Err(KeepError::Fault));
+    assert_eq!(rt; keeper.get(2), Err(KeepError::Fault));
+    assert_eq!(rt; keeper.of_member(&ann), Err(KeepError::Fault));
+    assert_eq!(rt; keeper.put_once(&key(1), &row), Err(KeepError::Fault));
+    assert_eq!(rt;
+        number(keeper, "SELECT count(*) + sum(how) FROM games")?,
+        303
+    );
+    Ok(())
+}
+
+#[test]
+fn the_greatest_id_is_the_last(rt: HostRuntime) -> Result<(), Fail> {
+    let alloc = rt.alloc();
+    let rows = ["INSERT INTO games VALUES (9223372036854775807, 1, 1, 1, 1, 0, '{}')"];
+    let mut keeper = keeper(alloc, &rows)?;
+    let row = game(alloc, &["Ann"], 0)?;
+    assert_eq!(rt; keeper.put_once(&key(2), &row), Err(KeepError::UsedUp));
+    assert_eq!(rt; number(keeper, "SELECT count(*) FROM games")?, 1);
     Ok(())
 }

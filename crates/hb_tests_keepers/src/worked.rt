@@ -1,57 +1,111 @@
 //! What do both keepers answer to the worked calls?
 
-use crate::calls::{Call, answer};
-use hb_keeper::{Fails, Keeper, KeeperMemory, When};
+use crate::games::{game, key};
+use hb_io::name;
+use hb_keeper::{Fails, KeepError, Keeper, KeeperMemory, Line, When};
 use hb_sqlite::KeeperSql;
-use std::alloc::Global;
-use std::process::Abort;
 use std::test::Fail;
 
-/// The game of Ann and Bob is put, and put again; it is listed and found; it is the only one; and
-/// another game is refused under its key.
-const WORKED: [(Call, &str); 6] = [
-    (Call::Put(1, 3), "Ok(1)"),
-    (Call::Put(1, 3), "Ok(1)"),
-    (Call::List, "[Line { id: 1, score: 3, how: 1 }]"),
-    (Call::Get(1), "[\"Ann\", \"Bob\"] 3"),
-    (Call::Get(2), "none"),
-    (Call::Put(1, 4), "Err(KeyDiffers(1))"),
-];
-
-/// Makes the calls in turn.
-fn answers<R: Abort, K: Keeper>(
-    rt: &R,
-    alloc: Global,
-    keeper: &mut K,
-    calls: &[(Call, &str)],
-) -> Result<(), Fail> {
-    for (call, want) in calls {
-        let told = answer(alloc, keeper, *call)?;
-        assert_eq!(rt; told.as_str(), *want);
-    }
+#[test]
+fn fails_before_and_after_the_work(rt: HostRuntime) -> Result<(), Fail> {
+    let alloc = rt.alloc();
+    let mut fails = Fails::new(alloc);
+    fails.push(2, When::Before)?;
+    fails.push(3, When::After)?;
+    let mut keeper = KeeperMemory::new(alloc, 0, fails)?;
+    let row = game(alloc, &["Ann", "Bob"], 3)?;
+    assert_eq!(rt; keeper.open_run(), Ok(1));
+    assert_eq!(rt; keeper.put_once(&key(1), &row), Err(KeepError::Fault));
+    assert_eq!(rt; keeper.put_once(&key(1), &row), Err(KeepError::Fault));
+    assert_eq!(rt; keeper.put_once(&key(1), &row), Ok(1));
+    assert_eq!(rt; keeper.get(1), Ok(Some(row)));
+    assert_eq!(rt; keeper.get(2), Ok(None));
+    let other = game(alloc, &["Ann", "Bob"], 4)?;
+    assert_eq!(rt;
+        keeper.put_once(&key(1), &other),
+        Err(KeepError::KeyDiffers(1))
+    );
     Ok(())
 }
 
 #[test]
-fn a_keeper_in_memory_fails_before_and_after_its_work(rt: HostRuntime) -> Result<(), Fail> {
-    let mut fails = Fails::new(rt.alloc());
-    fails.push(2, When::Before)?;
-    fails.push(3, When::After)?;
-    let mut keeper = KeeperMemory::new(rt.alloc(), 0, fails)?;
-    let first = [
-        (Call::OpenRun, "Ok(1)"),
-        (Call::Put(1, 3), "Err(Fault)"),
-        (Call::Put(1, 3), "Err(Fault)"),
-    ];
-    answers(&rt, rt.alloc(), &mut keeper, &first)?;
-    answers(&rt, rt.alloc(), &mut keeper, &WORKED)
+fn lists_a_game_once(rt: HostRuntime) -> Result<(), Fail> {
+    let alloc = rt.alloc();
+    let mut keeper = KeeperMemory::new(alloc, 0, Fails::new(alloc))?;
+    assert_eq!(rt;
+        keeper.put_once(&key(1), &game(alloc, &["Ann", "Bob"], 3)?),
+        Ok(1)
+    );
+    assert_eq!(rt;
+        keeper.put_once(&key(2), &game(alloc, &["Bob", "Eve"], 5)?),
+        Ok(2)
+    );
+    assert_eq!(rt;
+        keeper.put_once(&key(3), &game(alloc, &["Ann", "Ann"], 7)?),
+        Ok(3)
+    );
+    let Some(ann) = name("Ann") else {
+        panic!(rt; "a name");
+    };
+    let first = Line {
+        id: 1,
+        score: 3,
+        how: 1,
+    };
+    let third = Line {
+        id: 3,
+        score: 7,
+        how: 1,
+    };
+    let Ok(lines) = keeper.of_member(&ann) else {
+        panic!(rt; "lines");
+    };
+    assert_eq!(rt; lines.as_slice(), [first, third].as_slice());
+    Ok(())
+}
+
+#[test]
+fn a_run_number_is_used_up(rt: HostRuntime) -> Result<(), Fail> {
+    let alloc = rt.alloc();
+    let greatest = (1 << 63) - 1;
+    let mut keeper = KeeperMemory::new(alloc, greatest - 1, Fails::new(alloc))?;
+    assert_eq!(rt; keeper.open_run(), Ok(greatest));
+    assert_eq!(rt; keeper.open_run(), Err(KeepError::UsedUp));
+    Ok(())
 }
 
 #[test]
 fn a_database_answers_the_worked_calls(rt: HostRuntime) -> Result<(), Fail> {
-    let opened = KeeperSql::open_memory(rt.alloc()).ok();
-    let mut keeper = opened.ok_or("a store in memory opens")?;
-    let runs = [(Call::OpenRun, "Ok(1)"), (Call::OpenRun, "Ok(2)")];
-    answers(&rt, rt.alloc(), &mut keeper, &runs)?;
-    answers(&rt, rt.alloc(), &mut keeper, &WORKED)
+    let alloc = rt.alloc();
+    let Ok(mut keeper) = KeeperSql::open_memory(alloc) else {
+        panic!(rt; "a store in memory opens");
+    };
+    let row = game(alloc, &["Ann", "Bob"], 3)?;
+    let other = game(alloc, &["Ann", "Bob"], 4)?;
+    let Some(ann) = name("Ann") else {
+        panic!(rt; "a name");
+    };
+    assert_eq!(rt; keeper.open_run(), Ok(1));
+    assert_eq!(rt; keeper.put_once(&key(1), &row), Ok(1));
+    assert_eq!(rt; keeper.put_once(&key(1), &row), Ok(1));
+    assert_eq!(rt; keeper.get(1), Ok(Some(row)));
+    assert_eq!(rt; keeper.get(2), Ok(None));
+    assert_eq!(rt;
+        keeper.put_once(&key(1), &other),
+        Err(KeepError::KeyDiffers(1))
+    );
+    let Ok(lines) = keeper.of_member(&ann) else {
+        panic!(rt; "lines");
+    };
+    assert_eq!(rt;
+        lines.as_slice(),
+        [Line {
+            id: 1,
+            score: 3,
+            how: 1
+        }]
+        .as_slice()
+    );
+    assert_eq!(rt; keeper.open_run(), Ok(2));
+    Ok(())
 }
