@@ -34,34 +34,6 @@ const STATE_FOR_ANN: &str = "state {\"current\":1,\"deck\":19,\"score\":1,\"stac
      \"strikes\":0,\"tokens\":8,\"turn\":1}
 hand {\"seat\":0,\"sets\":[[1,";
 
-/// How a run ended, and what it wrote.
-#[derive(Drop)]
-struct Ran {
-    status: Status,
-    out: Vec<u8>,
-    err: Vec<u8>,
-}
-
-/// Runs the program over an input and an output whose calls with these numbers fail; 0 is none.
-fn run_over(
-    alloc: Global,
-    words: &[&str],
-    input: &str,
-    read_fails: u64,
-    write_fails: u64,
-) -> Result<Ran, AllocError> {
-    let bytes = input.as_bytes().to_vec(alloc)?;
-    let mut source = SourceMemory::new(bytes, 64, vec![in alloc; read_fails]?);
-    let mut out = SinkMemory::new(alloc, 5, vec![in alloc; write_fails]?);
-    let mut err = SinkMemory::new(alloc, 64, Vec::new(alloc));
-    let status = run(alloc, words, &mut source, &mut out, &mut err);
-    Ok(Ran {
-        status,
-        out: out.into_vec(),
-        err: err.into_vec(),
-    })
-}
-
 #[test]
 fn each_command_writes_its_text(rt: HostRuntime) -> Result<(), Fail> {
     let alloc = rt.alloc();
@@ -77,26 +49,39 @@ fn each_command_writes_its_text(rt: HostRuntime) -> Result<(), Fail> {
         (words[2], "ok 2 2 1 0\n", ""),
         (words[3], input.as_str(), "\n"),
     ] {
-        let ran = run_over(alloc, words, input.as_str(), 0, 0)?;
-        assert!(rt; ran.status == Status::Ok && ran.err.is_empty());
-        let text = String::from_utf8(ran.out)?;
+        let mut source = SourceMemory::new(input.as_bytes().to_vec(alloc)?, 7, Vec::new(alloc));
+        let mut out = SinkMemory::new(alloc, 5, Vec::new(alloc));
+        let mut err = SinkMemory::new(alloc, 5, Vec::new(alloc));
+        assert_eq!(rt;
+            run(alloc, words, &mut source, &mut out, &mut err),
+            Status::Ok
+        );
+        let text = String::from_utf8(out.into_vec())?;
         assert!(rt; text.starts_with(start) && text.ends_with(end), "{text}");
+        assert!(rt; err.into_vec().is_empty());
     }
     Ok(())
 }
 
 #[test]
 fn a_fault_leaves_a_front_and_has_its_line(rt: HostRuntime) -> Result<(), Fail> {
-    let input = replay_text(rt.alloc())?;
+    let alloc = rt.alloc();
+    let input = replay_text(alloc)?;
+    let none = Vec::new(alloc);
     for (read_fails, write_fails, status, front, line) in [
         (3, 0, Status::ReadFault, "", "read fault\n"),
         (0, 3, Status::WriteFault, "game {\"opt", "write fault\n"),
     ] {
-        let words = ["watch", "0"];
-        let ran = run_over(rt.alloc(), &words, input.as_str(), read_fails, write_fails)?;
-        assert!(rt; ran.status == status);
-        assert_eq!(rt; ran.out.as_slice(), front.as_bytes());
-        assert_eq!(rt; ran.err.as_slice(), line.as_bytes());
+        let bytes = input.as_bytes().to_vec(alloc)?;
+        let mut source = SourceMemory::new(bytes, 64, vec![in alloc; read_fails]?);
+        let mut out = SinkMemory::new(alloc, 5, vec![in alloc; write_fails]?);
+        let mut err = SinkMemory::new(alloc, 64, none.clone()?);
+        assert_eq!(rt;
+            run(alloc, &["watch", "0"], &mut source, &mut out, &mut err),
+            status
+        );
+        assert_eq!(rt; out.into_vec().as_slice(), front.as_bytes());
+        assert_eq!(rt; err.into_vec().as_slice(), line.as_bytes());
     }
     Ok(())
 }
