@@ -15,7 +15,7 @@ use Rattle.hb_club.specs.declared.commands.Entry.{Entry}
 use Rattle.hb_club.specs.declared.items.Item.{Item}
 use Rattle.hb_club.specs.declared.items.What.TheVariants as what
 use Rattle.hb_club.specs.CommandKinds.{asked_id, is_look}
-use Rattle.hb_club.specs.KeptReplies.{OwnEntry, is_done, kept_entry, pending_id}
+use Rattle.hb_club.specs.OwnEntries.{OwnEntry, is_done, kept_entry, pending_id}
 use Rattle.hb_club.specs.NewItems.{by_seat, entry_stamp, item_of, review_item, stamped_item}
 use Rattle.hb_club.specs.RoomEvents.{Call, Happening, RoomEvent, Site, event_moment}
 use Rattle.hb_club.specs.Rooms.{happening, past_of}

@@ -8,7 +8,7 @@ use Rattle.hb_club.specs.declared.clerks.Noted.TheVariants as noted
 use Rattle.hb_club.specs.declared.items.Item.{Item}
 use Rattle.hb_club.specs.declared.items.What.TheVariants as what
 use Rattle.hb_club.specs.ClerkCalls.{is_due, noted_by, notice_id, pending_load}
-use Rattle.hb_club.specs.KeptReplies.{OwnEntry, pending_id}
+use Rattle.hb_club.specs.OwnEntries.{OwnEntry, pending_id}
 use Rattle.hb_club.specs.NewItems.{stamp_at}
 use Rattle.hb_club.specs.RoomEvents.{AsksTodo, Call, Happening, Loaded, Notes, Notice, RoomEvent, Saved, Site, event_moment, in_time}
 use Rattle.hb_club.specs.Rooms.{happening, past_of}

@@ -10,7 +10,7 @@ use Rattle.hb_club.specs.declared.commands.Command.TheVariants as command
 use Rattle.hb_club.specs.declared.commands.Entry.{Entry}
 use Rattle.hb_club.specs.declared.items.Item.{Item}
 use Rattle.hb_club.specs.declared.replies.Reply.{Reply}
-use Rattle.hb_club.specs.KeptReplies.{OwnEntry}
+use Rattle.hb_club.specs.OwnEntries.{OwnEntry}
 use Rattle.hb_club.specs.RoomEvents.{AsksTodo, Call, Happening, Notes, RoomEvent, Site, event_moment}
 use Rattle.hb_club.specs.Rooms.{happening, past_of}
 use Rattle.hb_club.specs.Table.{Table}

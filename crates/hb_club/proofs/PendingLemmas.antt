@@ -9,7 +9,7 @@ use Rattle.hb_club.specs.declared.commands.Command.{Command}
 use Rattle.hb_club.specs.declared.items.Item.{Item}
 use Rattle.hb_club.specs.declared.replies.Reply.{Reply}
 use Rattle.hb_club.specs.CommandKinds.{asked_id}
-use Rattle.hb_club.specs.KeptReplies.{OwnEntry, accepted_load, is_done, kept_entry, pending_id, still_pending}
+use Rattle.hb_club.specs.OwnEntries.{OwnEntry, accepted_load, is_done, kept_entry, pending_id, still_pending}
 use Rattle.hb_club.specs.TableItems.{ends_load, has}
 
 -- more items end no fewer loads

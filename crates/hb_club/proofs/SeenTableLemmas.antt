@@ -19,7 +19,7 @@ use Rattle.hb_club.specs.declared.replies.Reply.{Reply}
 use Rattle.hb_club.specs.declared.replies.Reply.TheVariants.{Done}
 use Rattle.hb_club.specs.CommandKinds.{asked_action, is_for_seated, is_look}
 use Rattle.hb_club.specs.EndedReplays.{Finished}
-use Rattle.hb_club.specs.KeptReplies.{OwnEntry}
+use Rattle.hb_club.specs.OwnEntries.{OwnEntry}
 use Rattle.hb_club.specs.RoomEvents.{Site}
 use Rattle.hb_club.specs.Seating.{place_from, players, seated_names, shadow_of, viewer_by, viewer_of, watchers}
 use Rattle.hb_club.specs.SeenGames.{IsSeenGame}

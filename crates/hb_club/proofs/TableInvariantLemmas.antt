@@ -15,7 +15,7 @@ use Rattle.hb_club.specs.declared.commands.Entry.{Entry}
 use Rattle.hb_club.specs.declared.items.Item.{Item}
 use Rattle.hb_club.specs.declared.items.What.TheVariants as what
 use Rattle.hb_club.specs.ClerkCalls.{noted_by, noted_item, notice_id, pending_load}
-use Rattle.hb_club.specs.KeptReplies.{OwnEntry, is_done, kept_entry}
+use Rattle.hb_club.specs.OwnEntries.{OwnEntry, is_done, kept_entry}
 use Rattle.hb_club.specs.NewItems.{by_seat, entry_stamp, item_of, stamp_at, stamped_item, step_item}
 use Rattle.hb_club.specs.RoomEvents.{AsksTodo, Call, Happening, Loaded, Notes, RoomEvent, Saved, Site, event_moment, in_time}
 use Rattle.hb_club.specs.Rooms.{entry_item, happening, past_of}

@@ -14,7 +14,7 @@ use Rattle.hb_club.specs.declared.replies.Reply.{Reply}
 use Rattle.hb_club.specs.declared.replies.Reply.TheVariants.{Done, Refused}
 use Rattle.hb_club.specs.CommandKinds.{asked_action, asked_shadow, is_act, is_close, is_for_beginning, is_for_game, is_for_gathering, is_for_host, is_open, is_pause, is_resume, is_review_step, is_sit, is_start}
 use Rattle.hb_club.specs.EndedReplays.{Finished}
-use Rattle.hb_club.specs.KeptReplies.{OwnEntry, is_done, kept_entry, pending_id}
+use Rattle.hb_club.specs.OwnEntries.{OwnEntry, is_done, kept_entry, pending_id}
 use Rattle.hb_club.specs.Seating.{seated_names}
 use Rattle.hb_club.specs.Table.{Table, has_ended, is_paused, player_count, seat_of}
 use Rattle.hb_club.specs.TableItems.{acts, is_host, is_standing, is_started, steps}

@@ -15,7 +15,7 @@ use Rattle.hb_club.specs.declared.commands.Command.TheVariants as command
 use Rattle.hb_club.specs.declared.items.What.{What}
 use Rattle.hb_club.specs.declared.items.What.TheVariants as what
 use Rattle.hb_club.specs.EndedReplays.{Finished, game_text}
-use Rattle.hb_club.specs.KeptReplies.{OwnEntry, pending_id}
+use Rattle.hb_club.specs.OwnEntries.{OwnEntry, pending_id}
 use Rattle.hb_club.specs.RoomEvents.{Call, Happening, Loaded, Notice, RoomEvent, Saved, Site}
 use Rattle.hb_club.specs.Seating.{players}
 use Rattle.hb_club.specs.Table.{Table, has_ended}

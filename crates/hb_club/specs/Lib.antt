@@ -5,7 +5,7 @@ pub mod TableItems
 pub mod Seating
 pub mod TableClock
 pub mod EndedReplays
-pub mod KeptReplies
+pub mod OwnEntries
 pub mod TableReview
 pub mod Table
 pub mod TableRefusals

@@ -11,7 +11,7 @@ use Rattle.hb_suits.specs.VariantNames.{variant_of}
 use Rattle.hb_club.specs.declared.commands.Entry.{Entry}
 use Rattle.hb_club.specs.declared.replies.Reply.{Reply}
 use Rattle.hb_club.specs.EndedReplays.{Finished}
-use Rattle.hb_club.specs.KeptReplies.{OwnEntry}
+use Rattle.hb_club.specs.OwnEntries.{OwnEntry}
 use Rattle.hb_club.specs.Seating.{players}
 use Rattle.hb_club.specs.Table.{Table}
 use Rattle.hb_club.specs.TableItems.{is_started}

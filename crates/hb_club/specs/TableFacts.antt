@@ -15,7 +15,7 @@ use Rattle.hb_club.specs.declared.commands.Command.{Command}
 use Rattle.hb_club.specs.declared.commands.Command.TheVariants as command
 use Rattle.hb_club.specs.declared.items.Item.{Item}
 use Rattle.hb_club.specs.EndedReplays.{Finished}
-use Rattle.hb_club.specs.KeptReplies.{OwnEntry}
+use Rattle.hb_club.specs.OwnEntries.{OwnEntry}
 use Rattle.hb_club.specs.RoomEvents.{Call, Happening, Loaded, Notes, Outcome, Replied, RoomEvent, Site}
 use Rattle.hb_club.specs.Seating.{players}
 use Rattle.hb_club.specs.Table.{Table}

@@ -19,7 +19,7 @@ use Rattle.hb_club.specs.declared.replies.Refusal.TheVariants as refusal
 use Rattle.hb_club.specs.declared.replies.Reply.{Reply}
 use Rattle.hb_club.specs.declared.replies.Reply.TheVariants.{Done, Refused}
 use Rattle.hb_club.specs.CommandKinds.{asked_action, asked_order, asked_shadow, is_act, is_close, is_for_beginning, is_for_game, is_for_gathering, is_for_host, is_for_seated, is_leave, is_long_note, is_look, is_note, is_open, is_pause, is_pressing, is_resume, is_review_step, is_sit, is_start, is_watch}
-use Rattle.hb_club.specs.KeptReplies.{OwnEntry, is_done, kept_count, kept_entry, pending_id}
+use Rattle.hb_club.specs.OwnEntries.{OwnEntry, is_done, kept_count, kept_entry, pending_id}
 use Rattle.hb_club.specs.SameCommand.{same_command}
 use Rattle.hb_club.specs.Seating.{seated_names, shadow_of, watchers}
 use Rattle.hb_club.specs.Table.{Table, deck_size, has_ended, is_paused, player_count, seat_of}

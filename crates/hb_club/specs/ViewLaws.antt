@@ -5,7 +5,7 @@ use Rattle.hb_club.specs.declared.clerks.ClerkNote.{ClerkNote}
 use Rattle.hb_club.specs.declared.commands.Entry.{Entry}
 use Rattle.hb_club.specs.ClerkCalls.{pending_load}
 use Rattle.hb_club.specs.Fronts.{GoesOn}
-use Rattle.hb_club.specs.KeptReplies.{OwnEntry}
+use Rattle.hb_club.specs.OwnEntries.{OwnEntry}
 use Rattle.hb_club.specs.RoomEvents.{Call, Replied, RoomEvent, Site, event_moment, note_event}
 use Rattle.hb_club.specs.Rooms.{answer_to, past_of, table_at}
 use Rattle.hb_club.specs.SeenTable.{answer}

@@ -9,7 +9,7 @@ use Rattle.hb_club.specs.declared.items.Item.{Item}
 use Rattle.hb_club.specs.declared.items.Viewer.{Viewer}
 use Rattle.hb_club.specs.declared.items.Viewer.TheVariants as viewer
 use Rattle.hb_club.specs.EndedReplays.{Finished}
-use Rattle.hb_club.specs.KeptReplies.{OwnEntry}
+use Rattle.hb_club.specs.OwnEntries.{OwnEntry}
 use Rattle.hb_club.specs.RoomEvents.{RoomEvent, Site}
 use Rattle.hb_club.specs.Rooms.{past_of, table_at}
 use Rattle.hb_club.specs.Seating.{viewer_of}

@@ -6,7 +6,7 @@ use Rattle.hb_rules.specs.declared.suits.Identity.{Identity}
 use Rattle.hb_rules.specs.declared.variants.Variant.{Variant}
 use Rattle.hb_rules.specs.Cards.{IsDeck, copies, count_of, identity, number, same_identity}
 use Rattle.hb_rules.proofs.Identities.{same_identity-refl, same_identity-true}
-use Rattle.hb_rules.proofs.Numbers.{copies-in_range, identity-number}
+use Rattle.hb_rules.proofs.NumbersLemmas.{copies-in_range, identity-number}
 
 -- the variant has each card of a deck
 pub All-deck : (v : Variant) (deck : List Identity) → IsDeck v deck → All (λ id. 0 < copies v id) deck

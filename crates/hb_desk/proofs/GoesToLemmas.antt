@@ -5,7 +5,7 @@ use Rattle.hb_club.specs.Fronts.{Fronts}
 use Rattle.hb_club.specs.HallAnswers.{LobbyAnswers, NothingOwn, NothingOwnLobby, RoomAnswers}
 use Rattle.hb_club.specs.RoomEvents.{RoomEvent}
 use Rattle.hb_house.proofs.GoesOnLemmas.{all-on, goes_on-same}
-use Rattle.hb_desk.specs.Turns.{GoesTo}
+use Rattle.hb_desk.specs.DeskTurns.{GoesTo}
 
 -- nothing was called
 pub stays : {S : Type 0} (stands : S → Fronts → Type 0) (hall : S) (f : Fronts) → stands hall f → GoesTo stands hall f

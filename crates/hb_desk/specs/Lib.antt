@@ -1,3 +1,3 @@
-pub mod Turns
+pub mod DeskTurns
 pub mod Desks
 pub mod AnswerSteps

@@ -7,7 +7,7 @@ ghost use Rattle.hb_talk.specs.Errands.{asked};
 ghost use Rattle.hb_talk.specs.Sessions.{new_session};
 ghost use Rattle.hb_desk.specs.AnswerSteps.{IsFor};
 ghost use Rattle.hb_desk.specs.Desks.{DeskFits, DeskTurned, session_of};
-ghost use Rattle.hb_desk.specs.Turns.{GoesTo, IsWornFor, next_of};
+ghost use Rattle.hb_desk.specs.DeskTurns.{GoesTo, IsWornFor, next_of};
 
 use crate::answers::{write_answer, write_reply};
 use crate::errands::errand;

@@ -13,7 +13,7 @@ use Rattle.hb_rules.specs.Hands.{drawn_count}
 use Rattle.hb_rules.specs.Deals.{IsPossible}
 use Rattle.hb_rules.specs.Marks.{IsChoice, is_hidden, hidden, seen, meets, is_marked}
 use Rattle.hb_rules.proofs.Identities.{same_identity-refl}
-use Rattle.hb_rules.proofs.Numbers.{copies-none, copies-in_range, identity-number, number-identity, same-number}
+use Rattle.hb_rules.proofs.NumbersLemmas.{copies-none, copies-in_range, identity-number, number-identity, same-number}
 use Rattle.hb_sets.specs.Sets.{bit, Has}
 use Rattle.hb_match.specs.Matching.{IsAssignment, Possible, uses}
 use Rattle.hb_empathy.specs.Unseen.{AreMarks, AreUnseen}

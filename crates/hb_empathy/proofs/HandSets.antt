@@ -27,7 +27,7 @@ use Rattle.hb_empathy.proofs.OrderPlaces.{place, AtPlace, Passes, filter-at}
 use Rattle.hb_empathy.proofs.Assignments.{hidden-place, IsAsked}
 use Rattle.hb_empathy.proofs.Choices.{seen_after}
 use Rattle.hb_empathy.proofs.KnownCards.{game-runs, held-card, known-held, known-exact, found-exact}
-use Rattle.hb_rules.proofs.Hands.{is_at-true}
+use Rattle.hb_rules.proofs.HandsLemmas.{is_at-true}
 use Rattle.hb_rules.proofs.Possible.{range-rises}
 
 -- what holds of each number that a test keeps

@@ -18,8 +18,8 @@ use Rattle.hb_rules.specs.Deals.{IsPossible}
 use Rattle.hb_rules.specs.Marks.{is_hidden, hidden}
 use Rattle.hb_rules.proofs.Decks.{length-same}
 use Rattle.hb_rules.proofs.DeckSize.{deck-card}
-use Rattle.hb_rules.proofs.Hands.{holder-past}
-use Rattle.hb_rules.proofs.Numbers.{identity-number, number-identity}
+use Rattle.hb_rules.proofs.HandsLemmas.{holder-past}
+use Rattle.hb_rules.proofs.NumbersLemmas.{identity-number, number-identity}
 use Rattle.hb_rules.proofs.Possible.{possible-filter}
 use Rattle.hb_sets.specs.Sets.{Has, bit, members}
 use Rattle.hb_match.specs.Matching.{Possible}

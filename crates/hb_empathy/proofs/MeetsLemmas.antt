@@ -8,7 +8,7 @@ use Rattle.hb_rules.specs.declared.suits.Identity.{Identity}
 use Rattle.hb_rules.specs.Setup.{card, deal_size}
 use Rattle.hb_rules.specs.Hands.{removed, drawn_count, receiver, holder}
 use Rattle.hb_rules.specs.Marks.{is_hidden, meets, meets_one, hides_from}
-use Rattle.hb_rules.proofs.Hands.{holder-past}
+use Rattle.hb_rules.proofs.HandsLemmas.{holder-past}
 use Rattle.hb_rules.proofs.Undrawn.{receiver-undrawn}
 use Rattle.hb_empathy.proofs.TouchedCards.{same-self}
 

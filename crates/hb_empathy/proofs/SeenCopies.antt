@@ -15,8 +15,8 @@ use Rattle.hb_rules.specs.Setup.{card, deal_size}
 use Rattle.hb_rules.specs.Hands.{removed, drawn_count, receiver, holder, is_at, is_gone}
 use Rattle.hb_rules.specs.Legality.{Legal, rule}
 use Rattle.hb_rules.specs.Marks.{is_hidden, hides_from, hidden, seen, gone_copies}
-use Rattle.hb_rules.proofs.Hands.{holder-past}
-use Rattle.hb_rules.proofs.Ranges.{filter-range_more}
+use Rattle.hb_rules.proofs.HandsLemmas.{holder-past}
+use Rattle.hb_rules.proofs.RangesLemmas.{filter-range_more}
 use Rattle.hb_rules.proofs.Rules.{may_play, may_discard}
 use Rattle.hb_rules.proofs.Undrawn.{held-drawn, receiver-drawn}
 use Rattle.hb_empathy.specs.Unseen.{is_shown, shown_copies}

@@ -15,7 +15,7 @@ use Rattle.hb_rules.specs.Hands.{hand, holder, is_at}
 use Rattle.hb_rules.specs.Legality.{touched}
 use Rattle.hb_rules.specs.Events.{bits}
 use Rattle.hb_rules.specs.Marks.{same}
-use Rattle.hb_rules.proofs.Hands.{holder-past}
+use Rattle.hb_rules.proofs.HandsLemmas.{holder-past}
 use Rattle.hb_sight.proofs.Agreement.{with_cards, hand-same}
 use Rattle.hb_empathy.proofs.Replays.{MeetsClue}
 

@@ -14,8 +14,8 @@ use Rattle.hb_rules.specs.Hands.{drawn_count}
 use Rattle.hb_rules.specs.Legality.{Legal}
 use Rattle.hb_rules.specs.Marks.{is_hidden, gone_copies}
 use Rattle.hb_rules.proofs.DeckSize.{deal-few, deck-card}
-use Rattle.hb_rules.proofs.Numbers.{same-number}
-use Rattle.hb_rules.proofs.Ranges.{filter-range_more}
+use Rattle.hb_rules.proofs.NumbersLemmas.{same-number}
+use Rattle.hb_rules.proofs.RangesLemmas.{filter-range_more}
 use Rattle.hb_turns.specs.GameInvariant.{IsFair}
 use Rattle.hb_empathy.specs.Unseen.{is_shown, shown_below}
 use Rattle.hb_empathy.proofs.SeenCopies.{hidden-room, seen-few, count-below}

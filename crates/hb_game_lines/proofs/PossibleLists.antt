@@ -11,7 +11,7 @@ use Rattle.hb_rules.specs.Events.{blank, blanked, in_blind}
 use Rattle.hb_rules.specs.Observed.{Observed, observed, with_seat}
 use Rattle.hb_rules.specs.Positions.{events, hand}
 use Rattle.hb_rules.specs.Setup.{Position}
-use Rattle.hb_rules.proofs.Ranges.{range_more}
+use Rattle.hb_rules.proofs.RangesLemmas.{range_more}
 use Rattle.hb_sight.specs.Seen.{seen_position}
 use Rattle.hb_sight.proofs.BlindSeats.{in-or}
 use Rattle.hb_empathy.specs.Exact.{IsExact, AreHandSets}

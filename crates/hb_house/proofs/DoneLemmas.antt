@@ -11,7 +11,7 @@ use Rattle.hb_club.specs.declared.commands.Entry.{Entry}
 use Rattle.hb_club.specs.declared.items.Item.{Item}
 use Rattle.hb_club.specs.declared.replies.Refusal.TheVariants as refusal
 use Rattle.hb_club.specs.CommandKinds.{asked_action, is_close, is_note, is_open, is_review_step}
-use Rattle.hb_club.specs.KeptReplies.{OwnEntry, is_done, kept_entry}
+use Rattle.hb_club.specs.OwnEntries.{OwnEntry, is_done, kept_entry}
 use Rattle.hb_club.specs.Table.{Table, has_ended, seat_of}
 use Rattle.hb_club.specs.TableItems.{acts, has, is_saved, is_standing, is_started}
 use Rattle.hb_club.specs.TableRefusals.{act_rule, end_rows, game_rows, opens_next, own_for, reply_by, seat_rows, serial_rows, start_rows}

@@ -19,7 +19,7 @@ use Rattle.hb_club.specs.declared.items.What.{What}
 use Rattle.hb_club.specs.declared.items.What.TheVariants as what
 use Rattle.hb_club.specs.ClerkCalls.{SetNote, is_due, note_by, note_in, note_lists, row_of, save_of, save_when, set_notes}
 use Rattle.hb_club.specs.EndedReplays.{game_text}
-use Rattle.hb_club.specs.KeptReplies.{OwnEntry}
+use Rattle.hb_club.specs.OwnEntries.{OwnEntry}
 use Rattle.hb_club.specs.NewItems.{stamped_item}
 use Rattle.hb_club.specs.RoomEvents.{Added, AsksTodo, Call, Due, Happening, Notes, Outcome, Replied, RoomEvent, Site, event_moment, in_time}
 use Rattle.hb_club.specs.Rooms.{answer_to, happening, past_of}

@@ -17,7 +17,7 @@ use Rattle.hb_club.specs.declared.items.Item.{Item}
 use Rattle.hb_club.specs.declared.items.What.{What}
 use Rattle.hb_club.specs.declared.items.What.TheVariants as what
 use Rattle.hb_club.specs.ClerkCalls.{noted_by, noted_item, notice_id, pending_load}
-use Rattle.hb_club.specs.KeptReplies.{OwnEntry}
+use Rattle.hb_club.specs.OwnEntries.{OwnEntry}
 use Rattle.hb_club.specs.NewItems.{entry_stamp, item_of, stamp_at, stamped_item, step_item}
 use Rattle.hb_club.specs.RoomEvents.{AsksTodo, Call, Happening, Notes, RoomEvent, Site, event_moment, in_time}
 use Rattle.hb_club.specs.Rooms.{happening}

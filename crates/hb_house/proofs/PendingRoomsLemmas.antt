@@ -16,7 +16,7 @@ use Rattle.hb_club.specs.declared.items.What.{What}
 use Rattle.hb_club.specs.declared.items.What.TheVariants as what
 use Rattle.hb_club.specs.ClerkCalls.{pending_load}
 use Rattle.hb_club.specs.CommandKinds.{asked_id}
-use Rattle.hb_club.specs.KeptReplies.{OwnEntry, accepted_load, pending_id, still_pending}
+use Rattle.hb_club.specs.OwnEntries.{OwnEntry, accepted_load, pending_id, still_pending}
 use Rattle.hb_club.specs.NewItems.{stamped_item}
 use Rattle.hb_club.specs.RoomEvents.{AsksTodo, Call, Happening, Notes, RoomEvent, Site, event_moment}
 use Rattle.hb_club.specs.Rooms.{happening}

@@ -14,7 +14,7 @@ use Rattle.hb_club.specs.declared.items.What.TheVariants as what
 use Rattle.hb_club.specs.ClerkCalls.{found_or_not, is_pending, noted_by, noted_item, pending_load}
 use Rattle.hb_club.specs.EndedReplays.{Finished}
 use Rattle.hb_club.specs.Fronts.{GoesOn}
-use Rattle.hb_club.specs.KeptReplies.{OwnEntry, pending_id}
+use Rattle.hb_club.specs.OwnEntries.{OwnEntry, pending_id}
 use Rattle.hb_club.specs.NewItems.{stamp_at, stamped_item}
 use Rattle.hb_club.specs.RoomEvents.{AsksTodo, Due, Happening, Loaded, Notes, RoomEvent, Site, event_moment, in_time, read_text}
 use Rattle.hb_club.specs.Rooms.{answer_to, happening, past_of}

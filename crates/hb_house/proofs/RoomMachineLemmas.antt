@@ -5,7 +5,7 @@ use Rattle.hb_table.specs.declared.room.Room.{Room}
 use Rattle.hb_table.specs.Changes.{SameFacts}
 use Rattle.hb_table.specs.Keeps.{Keeps, StandsFor, site_in}
 use Rattle.hb_table.specs.State.{state_at}
-use Rattle.hb_table.proofs.KeepsLemmas.{same-facts-keeps}
+use Rattle.hb_table.proofs.RoomKeepsLemmas.{same-facts-keeps}
 
 -- with the same facts a room stands for each list for which it stood
 pub same-facts-stands : (a b : Room) → SameFacts a b → (events : List RoomEvent) → StandsFor a events → StandsFor b events

@@ -1,3 +1,3 @@
 pub mod NameText
 pub mod Reading
-pub mod Writing
+pub mod WritingLemmas

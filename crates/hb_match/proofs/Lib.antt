@@ -8,4 +8,4 @@ pub mod Hall
 pub mod Exchanged
 pub mod Growth
 pub mod Reach
-pub mod Sets
+pub mod SetsLemmas

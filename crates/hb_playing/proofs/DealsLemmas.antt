@@ -14,7 +14,7 @@ use Rattle.hb_club.specs.RoomEvents.{Site}
 use Rattle.hb_club.specs.TableFacts.{deck_by, setup_for, setup_when, shuffled_deck, stream_of}
 use Rattle.hb_playing.specs.declared.deals.DealError.{DealError}
 use Rattle.hb_playing.specs.declared.deals.DealError.TheVariants as error
-use Rattle.hb_playing.specs.Deals.{IsDealt, IsNoStart, IsNotDealt}
+use Rattle.hb_playing.specs.RoomDeals.{IsDealt, IsNoStart, IsNotDealt}
 
 -- a written deck of the variant is the table's
 pub deck_by-written : (s : Site) (v : Variant) (serial : ℕ) (deck : List Identity) → IsDeck v deck → deck_by (Some deck) s v serial ≡ deck

@@ -8,7 +8,7 @@ use Rattle.hb_review.specs.ReviewModel.{Walk}
 use Rattle.hb_club.specs.declared.commands.Command.{Command}
 use Rattle.hb_club.specs.declared.items.Item.{Item}
 use Rattle.hb_club.specs.TableReview.{played_game, reviewed_game, step_of, step_refusal}
-use Rattle.hb_playing.specs.Reviews.{ended_game, reviewed_by, steps_by, walk_of}
+use Rattle.hb_playing.specs.RoomReviews.{ended_game, reviewed_by, steps_by, walk_of}
 
 -- the game that was started is reviewed once it has ended, if none is loaded
 pub reviewed_game-ended : (g : Option Setup) (items : List Item)

@@ -1,10 +1,10 @@
 pub mod Games
-pub mod Clocks
+pub mod RoomClocks
 pub mod Seats
-pub mod Deals
+pub mod RoomDeals
 pub mod SetNotes
 pub mod HeldNotes
 pub mod Notes
 pub mod KeptRows
 pub mod Loads
-pub mod Reviews
+pub mod RoomReviews

@@ -6,7 +6,7 @@ ghost use Rattle.hb_rules.specs.Setup.{by};
 ghost use Rattle.hb_timer.specs.Banks.{is_running};
 ghost use Rattle.hb_timer.specs.declared.timing.TheConstants.{MOMENT_LIMIT};
 ghost use Rattle.hb_club.specs.TableClock.{is_halted};
-ghost use Rattle.hb_playing.specs.Clocks.{due_by, halted_by, is_timely, lapse_items, late_by, paused_by, resumed_by, timer_after, timer_of, turned_by};
+ghost use Rattle.hb_playing.specs.RoomClocks.{due_by, halted_by, is_timely, lapse_items, late_by, paused_by, resumed_by, timer_after, timer_of, turned_by};
 ghost use Rattle.hb_playing.specs.Games.{game_after};
 
 use crate::games::{is_ended, take};

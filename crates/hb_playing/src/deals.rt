@@ -5,7 +5,7 @@ ghost use Rattle.hb_rules.specs.Cards.{cards, IsDeck};
 ghost use Rattle.hb_rules.specs.Start.{started};
 ghost use Rattle.hb_deck.specs.Shuffle.{shuffle_of};
 ghost use Rattle.hb_club.specs.TableFacts.{deck_by};
-ghost use Rattle.hb_playing.specs.Deals.{IsDealt, IsNoStart, IsNotDealt, site_with};
+ghost use Rattle.hb_playing.specs.RoomDeals.{IsDealt, IsNoStart, IsNotDealt, site_with};
 
 use hb_club::Shoe;
 use hb_deck::{is_deck, shuffled};

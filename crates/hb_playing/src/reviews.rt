@@ -5,7 +5,7 @@ ghost use Rattle.std.specs.Option.{option_to_list};
 ghost use Rattle.hb_review.specs.Reviews.{go_refusal, go_step, hypo_refusal, hypo_step, undo_refusal, undo_step};
 ghost use Rattle.hb_club.specs.NewItems as items;
 ghost use Rattle.hb_club.specs.TableReview.{step_of, step_refusal};
-ghost use Rattle.hb_playing.specs.Reviews.{ended_game, reviewed_by, steps_by, walk_of};
+ghost use Rattle.hb_playing.specs.RoomReviews.{ended_game, reviewed_by, steps_by, walk_of};
 
 use hb_club::{Command, What};
 use hb_review::{Review, ReviewError, Step};

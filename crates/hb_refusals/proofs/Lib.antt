@@ -1,4 +1,4 @@
 pub mod KeptRepliesLemmas
 pub mod OptionLemmas
-pub mod OwnEntriesLemmas
+pub mod OwnRepliesLemmas
 pub mod RowLemmas

@@ -7,7 +7,7 @@ use Rattle.hb_club.specs.declared.replies.Refusal.TheVariants as refusal
 use Rattle.hb_club.specs.declared.replies.Reply.{Reply}
 use Rattle.hb_club.specs.declared.replies.Reply.TheVariants.{Refused}
 use Rattle.hb_club.specs.CommandKinds.{is_long_note, is_look}
-use Rattle.hb_club.specs.KeptReplies.{OwnEntry, is_unkept}
+use Rattle.hb_club.specs.OwnEntries.{OwnEntry, is_unkept}
 use Rattle.hb_club.specs.SameCommand.{same_command}
 use Rattle.hb_refusals.specs.declared.kept_replies.KeptReplies.{KeptReplies}
 use Rattle.hb_refusals.specs.declared.kept_replies.KeptReply.{KeptReply}

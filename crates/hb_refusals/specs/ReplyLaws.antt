@@ -1,7 +1,7 @@
 -- Are the kept replies those that hb_club keeps of a member's own entries?
 use Rattle.std.specs.Prelude.{◌≡◌, ℕ, List, ◌∷◌, bytes_eq, if◌then◌else◌, option_map}
 use Rattle.hb_club.specs.declared.commands.Command.{Command}
-use Rattle.hb_club.specs.KeptReplies.{OwnEntry, kept_count, kept_entry}
+use Rattle.hb_club.specs.OwnEntries.{OwnEntry, kept_count, kept_entry}
 use Rattle.hb_club.specs.TableRefusals.{kept_reply}
 use Rattle.hb_refusals.specs.declared.kept_replies.KeptReplies.{KeptReplies}
 use Rattle.hb_refusals.specs.KeptReplies.{KeepsFirst, count_at, kept_at, kept_of, reply_of}

@@ -5,7 +5,7 @@ use Rattle.hb_review.specs.declared.error.ReviewError.{ReviewError}
 use Rattle.hb_club.specs.declared.commands.Entry.{Entry}
 use Rattle.hb_club.specs.declared.replies.Reply.{Reply}
 use Rattle.hb_club.specs.CommandKinds.{asked_action}
-use Rattle.hb_club.specs.KeptReplies.{OwnEntry, kept_count, kept_entry, pending_id}
+use Rattle.hb_club.specs.OwnEntries.{OwnEntry, kept_count, kept_entry, pending_id}
 use Rattle.hb_club.specs.Table.{Table, seat_of}
 use Rattle.hb_club.specs.TableItems.{acts, steps}
 use Rattle.hb_club.specs.TableRefusals.{act_rule, end_rows, first_reply, game_rows, kept_reply, seat_rows, serial_rows, start_rows}

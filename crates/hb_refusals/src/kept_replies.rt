@@ -2,7 +2,7 @@
 
 ghost use Rattle.std.specs.Prelude.{◌≡◌, ◌<◌, ◌+◌, ◌&&◌, ◌==◌, ℕ, List, bytes_eq, if◌then◌else◌, is_some, Some, None, IsTrue, OnOk};
 ghost use Rattle.hb_club.specs.declared.limits.TheConstants.{MOST_KEPT_NUMBERS};
-ghost use Rattle.hb_club.specs.KeptReplies.{is_unkept};
+ghost use Rattle.hb_club.specs.OwnEntries.{is_unkept};
 ghost use Rattle.hb_refusals.specs.KeptReplies.{HasSpare, KeepsFirst, SameReplies, count_at, is_first, is_keepable, kept_at, reply_of};
 
 use crate::command_kinds::{is_long_note, is_look};

@@ -17,7 +17,7 @@ use Rattle.hb_rules.specs.Legality.{Legal, is_legal, rule}
 use Rattle.hb_rules.specs.Same.{same_events}
 use Rattle.hb_rules.proofs.Identities.{same_identity-true}
 use Rattle.std.proofs.lemmas.List.Folds.{list_all-append}
-use Rattle.hb_rules.proofs.Same.{tells-events}
+use Rattle.hb_rules.proofs.SameLemmas.{tells-events}
 use Rattle.std.proofs.lemmas.Bool.{eqb-true}
 
 -- one card more in front

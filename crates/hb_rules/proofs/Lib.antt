@@ -1,6 +1,6 @@
-pub mod Ranges
+pub mod RangesLemmas
 pub mod Copies
-pub mod Hands
+pub mod HandsLemmas
 pub mod Rules
 mod FittingPlays
 pub mod HandSize
@@ -11,7 +11,7 @@ pub mod Identities
 pub mod Decks
 pub mod SuitCount
 pub mod DeckSize
-pub mod Numbers
-pub mod Same
+pub mod NumbersLemmas
+pub mod SameLemmas
 pub mod IsDeal
 pub mod Possible

@@ -22,7 +22,7 @@ use Rattle.sqlite.proofs.Callers.{statement_of, runs_as, one_step}
 use Rattle.hb_keeper.specs.declared.rows.Key.{Key}
 use Rattle.hb_keeper.specs.declared.rows.GameRow.{GameRow}
 use Rattle.hb_sqlite.specs.Store.{store_schema, games_table}
-use Rattle.hb_sqlite.specs.Facts.{game_row, game_rows}
+use Rattle.hb_sqlite.specs.StoreTables.{game_row, game_rows}
 use Rattle.hb_sqlite.proofs.Texts.{write_game_text, write_game_is, write_game_plain, game_terms, cast_null, cast_number}
 use Rattle.hb_sqlite.proofs.RunLemmas.{not-stopped, same_value}
 

@@ -19,7 +19,7 @@ use Rattle.hb_keeper.specs.declared.rows.Key.{Key}
 use Rattle.hb_keeper.specs.declared.rows.GameRow.{GameRow}
 use Rattle.hb_keeper.specs.KeptGames.{Content, row_of_id}
 use Rattle.hb_sqlite.specs.Store.{store_schema}
-use Rattle.hb_sqlite.specs.Facts.{Tells, game_row, game_rows, row_shown, seat_name, seat_shown, seat_rows, numbered_from, ids_from, id_row}
+use Rattle.hb_sqlite.specs.StoreTables.{Tells, game_row, game_rows, row_shown, seat_name, seat_shown, seat_rows, numbered_from, ids_from, id_row}
 use Rattle.hb_sqlite.specs.StoreSteps.{IsSure, Reads}
 use Rattle.hb_sqlite.proofs.Texts.{read_game_text, read_game, read_game_is, read_game_plain, read_seat_text, read_seat, read_seat_is, read_seat_plain, find_key_text, find_key_is, find_key_plain}
 use Rattle.hb_sqlite.proofs.States.{rows_open, rows_unchanged, query_failed, kept_open, kept_tells}

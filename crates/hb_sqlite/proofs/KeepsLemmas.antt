@@ -6,7 +6,7 @@ use Rattle.hb_keeper.specs.declared.rows.Key.{Key}
 use Rattle.hb_keeper.specs.declared.rows.GameRow.{GameRow}
 use Rattle.hb_keeper.specs.KeptGames.{Content, id_of, put_by, put_on}
 use Rattle.hb_keeper.specs.Told.{Keeps}
-use Rattle.hb_sqlite.specs.Facts.{Tells}
+use Rattle.hb_sqlite.specs.StoreTables.{Tells}
 use Rattle.hb_sqlite.specs.StoreSteps.{IsSure, Reads}
 
 -- a put under the id that was found is the put under the key

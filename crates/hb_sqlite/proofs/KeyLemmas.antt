@@ -16,7 +16,7 @@ use Rattle.sqlite_sql.specs.Program.{overlay}
 use Rattle.hb_keeper.specs.declared.rows.Key.{Key}
 use Rattle.hb_keeper.specs.declared.rows.GameRow.{GameRow}
 use Rattle.hb_keeper.specs.KeptGames.{same_key, id_from}
-use Rattle.hb_sqlite.specs.Facts.{game_row, game_rows, ids_from, id_row}
+use Rattle.hb_sqlite.specs.StoreTables.{game_row, game_rows, ids_from, id_row}
 use Rattle.hb_sqlite.proofs.Texts.{equals, find_key}
 use Rattle.hb_sqlite.proofs.SelectLemmas.{matching, same_number}
 

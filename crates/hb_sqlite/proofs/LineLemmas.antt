@@ -18,8 +18,8 @@ use Rattle.hb_keeper.specs.declared.rows.Key.{Key}
 use Rattle.hb_keeper.specs.declared.rows.GameRow.{GameRow}
 use Rattle.hb_keeper.specs.declared.rows.Line.{Line}
 use Rattle.hb_keeper.specs.KeptGames.{Content, row_of_id, has_name, lines_from}
-use Rattle.hb_sqlite.specs.Facts.{id_row}
-use Rattle.hb_sqlite.specs.Seats.{ids_within, seat_ids, once, line_in, listed, lines_at}
+use Rattle.hb_sqlite.specs.StoreTables.{id_row}
+use Rattle.hb_sqlite.specs.SeatIds.{ids_within, seat_ids, once, line_in, listed, lines_at}
 use Rattle.hb_sqlite.specs.StoreSteps.{Reads}
 use Rattle.hb_sqlite.proofs.Texts.{games_of_text, games_of_plain}
 use Rattle.hb_sqlite.proofs.Gets.{all_rows, row_after}

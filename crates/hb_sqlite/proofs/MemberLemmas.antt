@@ -35,7 +35,7 @@ use Rattle.sqlite_sql.specs.Term.{Term, col, holds}
 use Rattle.sqlite_sql.specs.Query.{IsAnswer, output, output_cmp, page, Output}
 use Rattle.hb_keeper.specs.declared.rows.Key.{Key}
 use Rattle.hb_keeper.specs.declared.rows.GameRow.{GameRow}
-use Rattle.hb_sqlite.specs.Facts.{Tells, seats_from, seat_rows, numbered_from, id_row}
+use Rattle.hb_sqlite.specs.StoreTables.{Tells, seats_from, seat_rows, numbered_from, id_row}
 use Rattle.hb_sqlite.proofs.Texts.{equals, games_of, games_of_text, games_of_is, games_of_plain}
 use Rattle.hb_sqlite.proofs.SelectLemmas.{matching}
 

@@ -13,7 +13,7 @@ use Rattle.sqlite.proofs.Callers.{IsPlain}
 use Rattle.hb_sqlite.specs.declared.errors.OpenError.{OpenError}
 use Rattle.hb_keeper.specs.KeptGames.{Content}
 use Rattle.hb_sqlite.specs.Store.{store_schema}
-use Rattle.hb_sqlite.specs.Facts.{Tells}
+use Rattle.hb_sqlite.specs.StoreTables.{Tells}
 use Rattle.hb_sqlite.specs.StoreSteps.{Reads}
 use Rattle.hb_sqlite.specs.Stages.{Reaches, HasNoTable, HasFirstRun, HoldsVersion, IsNewStore, OpensNew, OpensVersion, no_schema, nothing_kept}
 use Rattle.hb_sqlite.proofs.States.{rows_unchanged}

@@ -23,7 +23,7 @@ use Rattle.hb_keeper.specs.declared.rows.Key.{Key}
 use Rattle.hb_keeper.specs.declared.rows.GameRow.{GameRow}
 use Rattle.hb_keeper.specs.KeptGames.{Content, with_row}
 use Rattle.hb_sqlite.specs.Store.{store_schema, seats_table}
-use Rattle.hb_sqlite.specs.Facts.{Tells, seat_cells, seats_from, seat_rows, numbered_from}
+use Rattle.hb_sqlite.specs.StoreTables.{Tells, seat_cells, seats_from, seat_rows, numbered_from}
 use Rattle.hb_sqlite.specs.StoreSteps.{IsSure, Does}
 use Rattle.hb_sqlite.specs.Within.{Holds, Backed, Placing, DoesWithin}
 use Rattle.hb_sqlite.proofs.Texts.{write_game_text, write_seat_text, write_seat_is, write_seat_plain, seat_terms, cast_null, cast_number}

@@ -20,7 +20,7 @@ use Rattle.sqlite.specs.Listing.{understood}
 use Rattle.sqlite.specs.State.{State, mode_of, Executes, QueriesRow}
 use Rattle.sqlite.proofs.Callers.{statement_of, runs_as, first_as, one_step, one_permutation}
 use Rattle.hb_sqlite.specs.Store.{store_schema, runs_table}
-use Rattle.hb_sqlite.specs.Facts.{run_row}
+use Rattle.hb_sqlite.specs.StoreTables.{run_row}
 use Rattle.hb_sqlite.proofs.Texts.{read_run_text, write_run_text, run_query, write_run, read_run_is, read_run_plain, write_run_is, write_run_plain, cast_null, cast_number, is_first, has_first}
 
 -- a part that gave a value did not stop on the way

@@ -27,7 +27,7 @@ use Rattle.sqlite.proofs.Callers.{IsPlain, command_of, statement_of, runs_as, re
 use Rattle.hb_sqlite.proofs.SelectLemmas.{shows_one, matching}
 use Rattle.hb_sqlite.specs.Store.{store_schema, version_table, runs_table, games_table, seats_table}
 use Rattle.hb_sqlite.specs.Stages.{Stage, Reaches, HasFirstRun, HoldsVersion, IsNewStore, no_schema, with_version, with_runs, with_games}
-use Rattle.hb_sqlite.specs.Facts.{version_row, run_row}
+use Rattle.hb_sqlite.specs.StoreTables.{version_row, run_row}
 use Rattle.hb_sqlite.proofs.Texts.{cast_null, cast_number, table_query}
 use Rattle.hb_sqlite.proofs.RunLemmas.{not-stopped, same_value}
 

@@ -8,7 +8,7 @@ use Rattle.sqlite_value.specs.Order.{Row}
 use Rattle.sqlite_sql.specs.Term.{Term, Env, col, holds}
 use Rattle.hb_keeper.specs.declared.rows.Key.{Key}
 use Rattle.hb_keeper.specs.declared.rows.GameRow.{GameRow}
-use Rattle.hb_sqlite.specs.Facts.{seats_from, seat_rows, numbered_from}
+use Rattle.hb_sqlite.specs.StoreTables.{seats_from, seat_rows, numbered_from}
 use Rattle.hb_sqlite.proofs.Texts.{equals}
 use Rattle.hb_sqlite.proofs.SelectLemmas.{matching, same_number}
 

@@ -20,7 +20,7 @@ use Rattle.sqlite_sql.specs.Program.{overlay}
 use Rattle.sqlite.proofs.Callers.{one_permutation}
 use Rattle.hb_keeper.specs.declared.rows.Key.{Key}
 use Rattle.hb_keeper.specs.declared.rows.GameRow.{GameRow}
-use Rattle.hb_sqlite.specs.Facts.{game_row, game_rows}
+use Rattle.hb_sqlite.specs.StoreTables.{game_row, game_rows}
 use Rattle.hb_sqlite.proofs.Texts.{table_query, equals}
 
 told : (b : Bool) → is_true (from_truth (Some b)) ≡ b

@@ -11,7 +11,7 @@ use Rattle.sqlite.specs.Listing.{understood}
 use Rattle.sqlite.specs.State.{State, Runs, RunsCommand, RunsAlone, shows_rows, ExecutesIn, Executes, IsNotRun, FailsToShow, FailsToQuery, ShowsRows, Shown, QueriesRow, IsUnchanged, IsRolledBack, ReleasesAt}
 use Rattle.sqlite.proofs.Callers.{IsPlain}
 use Rattle.hb_keeper.specs.KeptGames.{Content}
-use Rattle.hb_sqlite.specs.Facts.{Tells}
+use Rattle.hb_sqlite.specs.StoreTables.{Tells}
 
 module _ (old new : State) where
   -- an open connection was open before

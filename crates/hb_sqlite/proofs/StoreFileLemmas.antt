@@ -12,7 +12,7 @@ use Rattle.sqlite.specs.Start.{FindsIn}
 use Rattle.sqlite.specs.State.{State, HasCleanDisk, Opens, IsLive}
 use Rattle.hb_keeper.specs.KeptGames.{Content}
 use Rattle.hb_sqlite.specs.Store.{store_schema}
-use Rattle.hb_sqlite.specs.Facts.{Tells}
+use Rattle.hb_sqlite.specs.StoreTables.{Tells}
 use Rattle.hb_sqlite.specs.Stages.{HoldsVersion, IsNewStore, no_schema}
 use Rattle.hb_sqlite.specs.StoreSteps.{IsSure}
 use Rattle.hb_sqlite.specs.StoreFiles.{FilesHold, FilesHoldNoTable, FilesHoldVersion}

@@ -8,7 +8,7 @@ use Rattle.sqlite.specs.State.{State}
 use Rattle.hb_keeper.specs.declared.rows.Key.{Key}
 use Rattle.hb_keeper.specs.declared.rows.GameRow.{GameRow}
 use Rattle.hb_keeper.specs.KeptGames.{Content, row_of_id, id_of}
-use Rattle.hb_sqlite.specs.Facts.{names_in, seat_name, seats_from, seat_rows, seat_cells, ids_from, id_row}
+use Rattle.hb_sqlite.specs.StoreTables.{names_in, seat_name, seats_from, seat_rows, seat_cells, ids_from, id_row}
 use Rattle.hb_sqlite.specs.StoreSteps.{Reads}
 use Rattle.hb_sqlite.specs.Within.{Placing, DoesWithin}
 use Rattle.hb_sqlite.proofs.KeyLemmas.{first_id, one_of}

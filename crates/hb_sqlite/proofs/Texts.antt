@@ -18,7 +18,7 @@ use Rattle.sqlite.specs.Listing.{understood, reads_listing}
 use Rattle.sqlite.proofs.Callers.{IsPlain, command_of}
 use Rattle.sqlite_trees.specs.Tree.{has_rowid}
 use Rattle.hb_sqlite.specs.Store.{store_schema}
-use Rattle.hb_sqlite.specs.Facts.{run_row}
+use Rattle.hb_sqlite.specs.StoreTables.{run_row}
 
 -- the query for the last run
 abbrev pub read_run_text : List ℕ

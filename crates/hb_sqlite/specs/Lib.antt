@@ -1,8 +1,8 @@
 pub mod Store
-pub mod Facts
+pub mod StoreTables
 pub mod StoreSteps
 pub mod Within
 pub mod Rows
-pub mod Seats
+pub mod SeatIds
 pub mod Stages
 pub mod StoreFiles

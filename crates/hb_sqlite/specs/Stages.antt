@@ -10,7 +10,7 @@ use Rattle.hb_keeper.specs.KeptGames.{Content}
 use Rattle.hb_sqlite.specs.declared.errors.OpenError.{OpenError}
 use Rattle.hb_sqlite.specs.declared.errors.OpenError.TheVariants.{BadVersion}
 use Rattle.hb_sqlite.specs.Store.{store_schema, version_table, runs_table, games_table}
-use Rattle.hb_sqlite.specs.Facts.{Tells, version_row, run_row}
+use Rattle.hb_sqlite.specs.StoreTables.{Tells, version_row, run_row}
 
 -- no tables
 abbrev pub no_schema : Schema

@@ -9,7 +9,7 @@ use Rattle.sqlite.specs.Files.{HoldsDatabase}
 use Rattle.hb_keeper.specs.KeptGames.{Content}
 use Rattle.hb_sqlite.specs.Store.{store_schema}
 use Rattle.hb_sqlite.specs.Stages.{no_schema}
-use Rattle.hb_sqlite.specs.Facts.{version_row, run_row, game_rows, seat_rows, numbered_from}
+use Rattle.hb_sqlite.specs.StoreTables.{version_row, run_row, game_rows, seat_rows, numbered_from}
 
 -- the tables of a store hold the content
 pub record HoldsContent (db : Trees) (content : Content) : Type 0 where

@@ -2,7 +2,7 @@
 use Rattle.std.specs.Prelude.{Result, IsTrue, IfOk, OnErr}
 use Rattle.sqlite.specs.State.{State, HasCleanDisk}
 use Rattle.hb_keeper.specs.KeptGames.{Content}
-use Rattle.hb_sqlite.specs.Facts.{Tells}
+use Rattle.hb_sqlite.specs.StoreTables.{Tells}
 
 -- the disk has returned what was written, and no failure has shut the store
 pub record IsSure (s : State) : Type 0 where

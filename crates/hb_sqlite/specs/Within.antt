@@ -8,7 +8,7 @@ use Rattle.hb_keeper.specs.declared.rows.Key.{Key}
 use Rattle.hb_keeper.specs.declared.rows.GameRow.{GameRow}
 use Rattle.hb_keeper.specs.KeptGames.{Content}
 use Rattle.hb_sqlite.specs.Store.{store_schema}
-use Rattle.hb_sqlite.specs.Facts.{version_row, run_row, game_rows, seat_rows, numbered_from}
+use Rattle.hb_sqlite.specs.StoreTables.{version_row, run_row, game_rows, seat_rows, numbered_from}
 use Rattle.hb_sqlite.specs.StoreSteps.{IsSure}
 
 -- the tables hold this last run, these games and these seats

@@ -7,7 +7,7 @@ ghost use Rattle.hb_keeper.specs.declared.errors.KeepError.TheVariants.{Fault, K
 ghost use Rattle.hb_keeper.specs.declared.rows.Key.{Key};
 ghost use Rattle.hb_keeper.specs.KeptGames.{put_by, same_row};
 ghost use Rattle.hb_keeper.specs.Told.{Keeps, HasCause};
-ghost use Rattle.hb_sqlite.specs.Facts.{Tells};
+ghost use Rattle.hb_sqlite.specs.StoreTables.{Tells};
 ghost use Rattle.hb_sqlite.specs.StoreSteps.{IsSure};
 
 use crate::errors::Failure;

@@ -3,8 +3,8 @@
 ghost use Rattle.std.specs.Prelude.{◌≡◌, List, ℕ, Some, map, IfOk};
 ghost use Rattle.sqlite.specs.Held.{state};
 ghost use Rattle.hb_keeper.specs.KeptGames.{lines_from, row_of_id};
-ghost use Rattle.hb_sqlite.specs.Facts.{id_row};
-ghost use Rattle.hb_sqlite.specs.Seats.{line_in, lines_at, once, seat_ids};
+ghost use Rattle.hb_sqlite.specs.StoreTables.{id_row};
+ghost use Rattle.hb_sqlite.specs.SeatIds.{line_in, lines_at, once, seat_ids};
 ghost use Rattle.hb_sqlite.specs.StoreSteps.{Reads};
 
 use crate::errors::Failure;

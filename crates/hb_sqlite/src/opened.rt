@@ -8,7 +8,7 @@ ghost use Rattle.sqlite.specs.Steps.{over_memory};
 ghost use Rattle.sqlite.specs.Held.{state};
 ghost use Rattle.hb_keeper.specs.KeptGames.{Content};
 ghost use Rattle.hb_keeper.specs.Told.{IsFailure};
-ghost use Rattle.hb_sqlite.specs.Facts.{Tells};
+ghost use Rattle.hb_sqlite.specs.StoreTables.{Tells};
 ghost use Rattle.hb_sqlite.specs.Stages.{HoldsVersion, IsNewStore, no_schema, nothing_kept};
 ghost use Rattle.hb_sqlite.specs.StoreFiles.{FilesHold, FilesHoldNoTable, FilesHoldVersion};
 ghost use Rattle.hb_sqlite.specs.declared.errors.OpenError.TheVariants.{BadVersion};

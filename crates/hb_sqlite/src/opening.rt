@@ -6,7 +6,7 @@ ghost use Rattle.sqlite.specs.Held.{state};
 ghost use Rattle.sqlite.specs.State.{HasCleanDisk};
 ghost use Rattle.hb_sqlite.specs.Stages.{HasFirstRun, HasFirstVersion, HasGames, HasNoTable, HasRuns, HasSeats, HasVersion, HoldsVersion, IsNewStore, OpensNew, OpensVersion, Reaches, no_schema};
 ghost use Rattle.hb_keeper.specs.KeptGames.{Content};
-ghost use Rattle.hb_sqlite.specs.Facts.{Tells};
+ghost use Rattle.hb_sqlite.specs.StoreTables.{Tells};
 ghost use Rattle.hb_sqlite.specs.declared.errors.OpenError.TheVariants.{BadVersion};
 ghost use Rattle.hb_sqlite.specs.StoreSteps.{IsSure, Reads};
 

@@ -5,7 +5,7 @@ ghost use Rattle.std.specs.declared.option.Option.{Option};
 ghost use Rattle.sqlite.specs.Held.{state};
 ghost use Rattle.hb_keeper.specs.declared.rows.GameRow.{GameRow};
 ghost use Rattle.hb_keeper.specs.KeptGames.{greatest, row_of_id, id_of};
-ghost use Rattle.hb_sqlite.specs.Facts.{row_shown, seat_name, seat_shown, cells_of, names_in, ids_from, id_row};
+ghost use Rattle.hb_sqlite.specs.StoreTables.{row_shown, seat_name, seat_shown, cells_of, names_in, ids_from, id_row};
 ghost use Rattle.hb_sqlite.specs.Rows.{IsHead, IsHeadOf};
 ghost use Rattle.hb_sqlite.specs.StoreSteps.{Does, Reads};
 

@@ -6,7 +6,7 @@ ghost use Rattle.sqlite.specs.Held.{state};
 ghost use Rattle.hb_keeper.specs.declared.rows.Key.{Key};
 ghost use Rattle.hb_keeper.specs.declared.rows.GameRow.{GameRow};
 ghost use Rattle.hb_keeper.specs.KeptGames.{with_row};
-ghost use Rattle.hb_sqlite.specs.Facts.{seats_from, seat_rows, seat_cells};
+ghost use Rattle.hb_sqlite.specs.StoreTables.{seats_from, seat_rows, seat_cells};
 ghost use Rattle.hb_sqlite.specs.StoreSteps.{Does};
 ghost use Rattle.hb_sqlite.specs.Within.{Placing, DoesWithin};
 

@@ -12,7 +12,7 @@ use Rattle.hb_rules.specs.declared.variants.Variant.{Variant}
 use Rattle.hb_suits.specs.Variants.{variant_with}
 use Rattle.hb_suits.specs.VariantNames.{plus, suit_name, suit_named, all_suits, pieces, are_suits, spelled}
 use Rattle.hb_suits.proofs.Finds.{find-passes}
-use Rattle.hb_suits.proofs.Places.{variant_with-none}
+use Rattle.hb_suits.proofs.PlacesLemmas.{variant_with-none}
 use Rattle.hb_suits.proofs.Spellings.{spelled-named}
 use Rattle.std.proofs.lemmas.Bool.{and_parts}
 

@@ -1,6 +1,6 @@
 mod Sizes
 mod Finds
-mod Places
+mod PlacesLemmas
 mod Spellings
 mod Listed
 mod Joined

@@ -8,7 +8,7 @@ use Rattle.hb_rules.specs.declared.suits.Suit.{Suit}
 use Rattle.hb_rules.specs.Suits.{is_variant}
 use Rattle.hb_suits.specs.Variants.{placed, variant_with}
 use Rattle.hb_suits.specs.VariantNames.{suit_named, pieces, are_suits, spelled}
-use Rattle.hb_suits.proofs.Places.{variant_with-none, is_variant-few}
+use Rattle.hb_suits.proofs.PlacesLemmas.{variant_with-none, is_variant-few}
 use Rattle.std.proofs.lemmas.Bool.{and_parts}
 
 -- the texts behind references

@@ -71,7 +71,7 @@ pub fn deck_size(variant: &Variant) -> u8
 }
 
 /// The set of the variant's identities: bit `n` stands for the identity with number `n`.
-#[tactic(auto, using(hb_rules::proofs::Numbers::has_number_low))]
+#[tactic(auto, using(hb_rules::proofs::NumbersLemmas::has_number_low))]
 pub fn identities(variant: &Variant) -> u64
     ensures { (n : ℕ) → (bit result n == 1) ≡ has_number variant.now n }
 {

@@ -24,7 +24,7 @@ use Rattle.hb_club.specs.TableItems.{step_in as step_of_item, steps}
 use Rattle.hb_club.specs.TableReview.{reviewed_game, step_of, step_refusal}
 use Rattle.hb_club.proofs.PlainItemsLemmas.{is_plain}
 use Rattle.hb_playing.specs.Games.{ended_by, game_after, rule_by}
-use Rattle.hb_playing.specs.Reviews.{reviewed_by, steps_by, walk_of}
+use Rattle.hb_playing.specs.RoomReviews.{reviewed_by, steps_by, walk_of}
 use Rattle.hb_playing.specs.Seats.{seat_in}
 use Rattle.hb_table.specs.declared.room.Room.{Room}
 use Rattle.hb_table.specs.State.{State, host_load}
@@ -34,7 +34,7 @@ use Rattle.hb_table.specs.Changes.{KeepsEntry, review_after}
 use Rattle.hb_table.specs.Steps.{Accepts, Does, IsTaken, Steps, item_in, stamp_for, step_in, stepped}
 use Rattle.hb_table.specs.Verdicts.{verdict_in}
 use Rattle.hb_table.proofs.AddLemmas.{IsReady, act-can, end-over, is_small, pause-can, resume-can, small-can, step-can}
-use Rattle.hb_table.proofs.KeepsLemmas.{CanAdd}
+use Rattle.hb_table.proofs.RoomKeepsLemmas.{CanAdd}
 use Rattle.hb_table.proofs.SoundLemmas.{Sound, started-unloaded}
 use Rattle.hb_table.proofs.StepLemmas.{Finding, item-steps, plain-steps}
 use Rattle.hb_table.proofs.TableGamesLemmas.{with_act}

@@ -29,9 +29,9 @@ use Rattle.hb_club.specs.TableReview.{played_game, reviewed_game}
 use Rattle.hb_club.specs.TimeFirst.{with_items}
 use Rattle.hb_club.proofs.PlainItemsLemmas.{is_plain}
 use Rattle.hb_playing.specs.declared.clocks.Lapse.{Lapse}
-use Rattle.hb_playing.specs.Clocks.{halted_by, is_timely, paused_by, resumed_by, timer_after, turned_by}
+use Rattle.hb_playing.specs.RoomClocks.{halted_by, is_timely, paused_by, resumed_by, timer_after, turned_by}
 use Rattle.hb_playing.specs.Games.{acted_by, ended_by, game_after, rule_by}
-use Rattle.hb_playing.specs.Reviews.{ended_game, walk_of}
+use Rattle.hb_playing.specs.RoomReviews.{ended_game, walk_of}
 use Rattle.hb_table.specs.declared.room.Room.{Room}
 use Rattle.hb_table.specs.State.{State, history_in, position_in, reviewed_by}
 use Rattle.hb_table.specs.StateMoves.{item_at}
@@ -39,7 +39,7 @@ use Rattle.hb_table.specs.Keeps.{HaltsAtEnd, IsTimely, Keeps, walk_in}
 use Rattle.hb_table.specs.Changes.{due_in, review_after, timed_out}
 use Rattle.hb_table.proofs.TableMovesLemmas.{names_in-plain, steps-stay}
 use Rattle.hb_table.proofs.TableGamesLemmas.{call_of_act, clock_with, game_with, has_ended-by, history_in-item, position_in-item, reviewed_game-item, reviewed_game-stays, with_act, with_call}
-use Rattle.hb_table.proofs.KeepsLemmas.{CanAdd}
+use Rattle.hb_table.proofs.RoomKeepsLemmas.{CanAdd}
 use Rattle.hb_table.proofs.ReviewStepsLemmas.{NoStepsBefore, ended-called, is_reviewing}
 
 -- a plain item opens no table

@@ -29,7 +29,7 @@ use Rattle.hb_refusals.specs.ReplyLaws.{StandsForOwn}
 use Rattle.hb_playing.specs.declared.clocks.Lapse.{Lapse}
 use Rattle.hb_playing.specs.Games.{ended_by}
 use Rattle.hb_playing.specs.KeptRows.{row_with}
-use Rattle.hb_playing.specs.Reviews.{walk_of}
+use Rattle.hb_playing.specs.RoomReviews.{walk_of}
 use Rattle.hb_table.specs.declared.room.Room.{Room}
 use Rattle.hb_table.specs.State.{State, host_load, position_in}
 use Rattle.hb_table.specs.StateMoves.{item_at, noted_in, row_in, save_if, save_in, stamp_in, timed_state, todo_in, with_loaded, with_noted}
@@ -39,7 +39,7 @@ use Rattle.hb_table.specs.Clerk.{Noting, game_behind, game_in_time, is_due_in, k
 use Rattle.hb_table.specs.Steps.{Answers, Timed, stamp_for}
 use Rattle.hb_table.proofs.AddLemmas.{ended-timely, small-can}
 use Rattle.hb_table.proofs.ClerkStateLemmas.{answer_to-note, answer_to-todo, state_of-loaded, state_of-no-game, state_of-nothing, state_of-saved, state_of-todo}
-use Rattle.hb_table.proofs.KeepsLemmas.{noted-keeps}
+use Rattle.hb_table.proofs.RoomKeepsLemmas.{noted-keeps}
 use Rattle.hb_table.proofs.PendingStateLemmas.{host_load-item}
 use Rattle.hb_table.proofs.ReviewStepsLemmas.{is_reviewing}
 use Rattle.hb_table.proofs.SoundLemmas.{Sound, not-some, position-started, unstarted-position}

@@ -15,7 +15,7 @@ use Rattle.hb_club.specs.declared.items.Item.{Item}
 use Rattle.hb_club.specs.declared.items.What.TheVariants as what
 use Rattle.hb_club.specs.CommandKinds.{is_long_note, is_look, is_open}
 use Rattle.hb_club.specs.ClerkCalls.{note_at, note_by, note_in, set_notes}
-use Rattle.hb_club.specs.KeptReplies.{OwnEntry, is_done, is_kept, is_unkept, kept_count, kept_entry}
+use Rattle.hb_club.specs.OwnEntries.{OwnEntry, is_done, is_kept, is_unkept, kept_count, kept_entry}
 use Rattle.hb_club.specs.NewItems.{entry_stamp}
 use Rattle.hb_club.specs.RoomEvents.{AsksTodo, Call, Happening, Notes, RoomEvent, Site}
 use Rattle.hb_club.specs.Rooms.{happening, past_of}

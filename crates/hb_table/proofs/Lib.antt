@@ -6,16 +6,16 @@ pub mod PendingStateLemmas
 pub mod TableGamesLemmas
 pub mod TableFactsLemmas
 pub mod ReviewStepsLemmas
-mod RowLemmas
+mod RoomRowLemmas
 mod VerdictLemmas
-pub mod KeepsLemmas
+pub mod RoomKeepsLemmas
 mod AddLemmas
 mod SoundLemmas
 mod TimedLemmas
 mod StepLemmas
 mod AcceptLemmas
-mod OpenLemmas
+mod RoomOpenLemmas
 mod ClerkLemmas
 mod HeadLemmas
-mod ShowsLemmas
+mod RoomShowsLemmas
 mod ViewLemmas

@@ -15,7 +15,7 @@ use Rattle.hb_club.specs.declared.items.Item.{Item}
 use Rattle.hb_club.specs.declared.items.What.TheVariants as what
 use Rattle.hb_club.specs.declared.replies.Reply.{Reply}
 use Rattle.hb_club.specs.CommandKinds.{asked_id, is_look}
-use Rattle.hb_club.specs.KeptReplies.{OwnEntry, accepted_load, is_done, kept_entry, pending_id, still_pending}
+use Rattle.hb_club.specs.OwnEntries.{OwnEntry, accepted_load, is_done, kept_entry, pending_id, still_pending}
 use Rattle.hb_club.specs.RoomEvents.{RoomEvent, Site, event_moment}
 use Rattle.hb_club.specs.Rooms.{past_of}
 use Rattle.hb_club.specs.Table.{Table}

@@ -13,7 +13,7 @@ use Rattle.hb_club.specs.declared.items.What.{What}
 use Rattle.hb_club.specs.declared.items.What.TheVariants as what
 use Rattle.hb_club.specs.CommandKinds.{is_look, is_open}
 use Rattle.hb_club.specs.ClerkCalls.{SetNote, note_at, note_by, note_in, set_notes}
-use Rattle.hb_club.specs.KeptReplies.{is_done, kept_entry}
+use Rattle.hb_club.specs.OwnEntries.{is_done, kept_entry}
 use Rattle.hb_club.specs.NewItems.{by_seat, command_stamp, item_of}
 use Rattle.hb_club.specs.RoomEvents.{Call, Happening, Outcome, RoomEvent, Site, event_moment, in_time}
 use Rattle.hb_club.specs.Rooms.{happening, past_of}

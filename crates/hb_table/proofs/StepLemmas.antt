@@ -28,7 +28,7 @@ use Rattle.hb_table.specs.Changes.{AddsItem, KeepsEntry, KeepsWhen, Stamps, keep
 use Rattle.hb_table.specs.Steps.{Answers, IsTaken, Steps, Timed, stamp_for}
 use Rattle.hb_table.specs.Verdicts.{verdict_in}
 use Rattle.hb_table.proofs.ClerkStateLemmas.{answer_to-call}
-use Rattle.hb_table.proofs.KeepsLemmas.{CanAdd, entry-keeps, item-keeps, keeps-same, stamps-facts}
+use Rattle.hb_table.proofs.RoomKeepsLemmas.{CanAdd, entry-keeps, item-keeps, keeps-same, stamps-facts}
 use Rattle.hb_table.proofs.SoundLemmas.{Sound, timed_state-sound}
 use Rattle.hb_table.proofs.StateLemmas.{state_of-item, state_of-no-item, state_of-refused}
 use Rattle.hb_table.proofs.VerdictLemmas.{Refuses, Taken, keeps-few, look-refuses, refused-no-load, taken-host, taken-no-open, taken-standing, verdict-refuses, verdict-taken}

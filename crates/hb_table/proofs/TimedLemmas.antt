@@ -16,7 +16,7 @@ use Rattle.hb_club.specs.TableReview.{played_game}
 use Rattle.hb_club.specs.TimeFirst.{timeout_at}
 use Rattle.hb_club.specs.WholeGames.{BringWhole}
 use Rattle.hb_playing.specs.declared.clocks.Lapse.{Lapse}
-use Rattle.hb_playing.specs.Clocks.{due_at, due_by, lapse_items}
+use Rattle.hb_playing.specs.RoomClocks.{due_at, due_by, lapse_items}
 use Rattle.hb_playing.specs.Games.{game_after}
 use Rattle.hb_table.specs.declared.room.Room.{Room}
 use Rattle.hb_table.specs.State.{history_in, position_in, state_at, state_of}
@@ -25,7 +25,7 @@ use Rattle.hb_table.specs.Keeps.{IsTimely, Keeps}
 use Rattle.hb_table.specs.Changes.{AddsItem, SameFacts, TimesOut, due_in, review_after, timed_out}
 use Rattle.hb_table.specs.Steps.{Timed}
 use Rattle.hb_table.proofs.AddLemmas.{Lapses, lapse-can}
-use Rattle.hb_table.proofs.KeepsLemmas.{added-keeps, same-facts-keeps}
+use Rattle.hb_table.proofs.RoomKeepsLemmas.{added-keeps, same-facts-keeps}
 use Rattle.hb_table.proofs.PendingStateLemmas.{state_at-table, state_at-within}
 use Rattle.hb_table.proofs.SoundLemmas.{sound-may-lapse, state_at-sound, unstarted-position}
 use Rattle.hb_table.proofs.TableGamesLemmas.{late_by, timeout-by}

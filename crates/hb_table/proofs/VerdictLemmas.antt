@@ -20,7 +20,7 @@ use Rattle.hb_club.specs.declared.replies.Refusal.TheVariants as refusal
 use Rattle.hb_club.specs.declared.replies.Reply.{Reply}
 use Rattle.hb_club.specs.declared.replies.Reply.TheVariants.{Done, Refused}
 use Rattle.hb_club.specs.CommandKinds.{asked_action, is_for_beginning, is_for_game, is_for_gathering, is_for_host, is_long_note, is_look, is_open, is_pressing, is_start}
-use Rattle.hb_club.specs.KeptReplies.{OwnEntry, is_done, is_unkept, kept_count, kept_entry, pending_id}
+use Rattle.hb_club.specs.OwnEntries.{OwnEntry, is_done, is_unkept, kept_count, kept_entry, pending_id}
 use Rattle.hb_club.specs.Seating.{Watcher, shadow_of, watchers}
 use Rattle.hb_club.specs.Table.{Table, deck_size, has_ended, is_paused, player_count, seat_of}
 use Rattle.hb_club.specs.TableItems.{acts, all_of, first_of_all, host, host_in, is_host, is_standing, steps}
@@ -33,11 +33,11 @@ use Rattle.hb_refusals.specs.Facts.{facts_of}
 use Rattle.hb_refusals.specs.KeptReplies.{count_at, is_first, is_keepable, kept_at}
 use Rattle.hb_refusals.specs.RowLaws.{shown_rows}
 use Rattle.hb_refusals.proofs.OptionLemmas.{is_none-not, none-same}
-use Rattle.hb_refusals.proofs.OwnEntriesLemmas.{kept_reply-own}
+use Rattle.hb_refusals.proofs.OwnRepliesLemmas.{kept_reply-own}
 use Rattle.hb_refusals.proofs.RowLemmas.{rows_on-loading}
-use Rattle.hb_playing.specs.Clocks.{paused_by}
+use Rattle.hb_playing.specs.RoomClocks.{paused_by}
 use Rattle.hb_playing.specs.Games.{cards_by, ended_by, players_by, rule_by}
-use Rattle.hb_playing.specs.Reviews.{reviewed_by, steps_by, walk_of}
+use Rattle.hb_playing.specs.RoomReviews.{reviewed_by, steps_by, walk_of}
 use Rattle.hb_playing.specs.Seats.{seat_in}
 use Rattle.hb_table.specs.declared.room.Room.{Room}
 use Rattle.hb_table.specs.State.{State, history_in, host_load, position_in}
@@ -46,7 +46,7 @@ use Rattle.hb_table.specs.Keeps.{Keeps}
 use Rattle.hb_table.specs.Changes.{keeps_in}
 use Rattle.hb_table.specs.Verdicts.{count_in, facts_in, known_in, opens_in, verdict_in}
 use Rattle.hb_table.proofs.KeptEntriesLemmas.{opens_table, opens_table-taken}
-use Rattle.hb_table.proofs.RowLemmas.{NoRow, rows_on-none, rows_on-refuse}
+use Rattle.hb_table.proofs.RoomRowLemmas.{NoRow, rows_on-none, rows_on-refuse}
 
 -- what the rows read of the game and the clock
 

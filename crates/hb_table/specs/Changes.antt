@@ -15,15 +15,15 @@ use Rattle.hb_club.specs.declared.replies.Reply.{Reply}
 use Rattle.hb_club.specs.ClerkCalls.{SetNote}
 use Rattle.hb_club.specs.CommandKinds.{asked_id}
 use Rattle.hb_club.specs.EndedReplays.{Finished}
-use Rattle.hb_club.specs.KeptReplies.{is_done}
+use Rattle.hb_club.specs.OwnEntries.{is_done}
 use Rattle.hb_club.specs.Seating.{seated_after, watchers_after}
 use Rattle.hb_club.specs.TableItems.{ends_load, is_closed, is_saved}
 use Rattle.hb_refusals.specs.declared.kept_replies.KeptReplies.{KeptReplies}
 use Rattle.hb_refusals.specs.KeptReplies.{HasSpare, KeepsFirst, SameReplies, count_at, is_first, kept_at}
 use Rattle.hb_playing.specs.declared.clocks.Lapse.{Lapse}
-use Rattle.hb_playing.specs.Clocks.{due_by, timer_after}
+use Rattle.hb_playing.specs.RoomClocks.{due_by, timer_after}
 use Rattle.hb_playing.specs.Games.{game_after}
-use Rattle.hb_playing.specs.Reviews.{ended_game, walk_of}
+use Rattle.hb_playing.specs.RoomReviews.{ended_game, walk_of}
 use Rattle.hb_table.specs.declared.room.Room.{Room}
 use Rattle.hb_table.specs.Keeps.{site_in}
 

@@ -15,7 +15,7 @@ use Rattle.hb_club.specs.TableReview.{reviewed_game}
 use Rattle.hb_club.specs.WholeGames.{BringWhole}
 use Rattle.hb_refusals.specs.ReplyLaws.{StandsForOwn}
 use Rattle.hb_playing.specs.Games.{ended_by}
-use Rattle.hb_playing.specs.Reviews.{walk_of}
+use Rattle.hb_playing.specs.RoomReviews.{walk_of}
 use Rattle.hb_table.specs.declared.room.Room.{Room}
 use Rattle.hb_table.specs.State.{State, history_in, host_load, position_in, state_at}
 

@@ -6,8 +6,8 @@ use Rattle.hb_timer.specs.Timer.{History}
 use Rattle.hb_suits.specs.VariantNames.{variant_of}
 use Rattle.hb_club.specs.declared.commands.Command.TheVariants as command
 use Rattle.hb_club.specs.declared.commands.Entry.{Entry}
-use Rattle.hb_playing.specs.Clocks.{timer_of}
-use Rattle.hb_playing.specs.Deals.{IsDealt}
+use Rattle.hb_playing.specs.RoomClocks.{timer_of}
+use Rattle.hb_playing.specs.RoomDeals.{IsDealt}
 use Rattle.hb_table.specs.declared.room.Room.{Room}
 use Rattle.hb_table.specs.Keeps.{site_in}
 use Rattle.hb_table.specs.Steps.{IsTaken}

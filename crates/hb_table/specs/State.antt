@@ -8,7 +8,7 @@ use Rattle.hb_rules.specs.Setup.{Position}
 use Rattle.hb_timer.specs.Timer.{History}
 use Rattle.hb_club.specs.ClerkCalls.{SetNote, set_notes}
 use Rattle.hb_club.specs.EndedReplays.{Finished}
-use Rattle.hb_club.specs.KeptReplies.{OwnEntry, pending_id}
+use Rattle.hb_club.specs.OwnEntries.{OwnEntry, pending_id}
 use Rattle.hb_club.specs.NewItems.{command_stamp}
 use Rattle.hb_club.specs.RoomEvents.{Happening, RoomEvent, Site}
 use Rattle.hb_club.specs.Rooms.{past_of}

@@ -17,7 +17,7 @@ use Rattle.hb_club.specs.declared.items.What.TheVariants as what
 use Rattle.hb_club.specs.declared.replies.Reply.{Reply}
 use Rattle.hb_club.specs.ClerkCalls.{SetNote, is_due, note_lists, noted_by}
 use Rattle.hb_club.specs.EndedReplays.{Finished, game_text}
-use Rattle.hb_club.specs.KeptReplies.{OwnEntry}
+use Rattle.hb_club.specs.OwnEntries.{OwnEntry}
 use Rattle.hb_club.specs.NewItems.{by_seat, greatest_stamp}
 use Rattle.hb_club.specs.RoomEvents.{Call, Happening, Notice, Replied, RoomEvent, Site, event_moment, in_time}
 use Rattle.hb_club.specs.Seating.{players}

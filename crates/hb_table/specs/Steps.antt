@@ -20,7 +20,7 @@ use Rattle.hb_club.specs.Rooms.{answer_to, past_of}
 use Rattle.hb_club.specs.TableReview.{step_of}
 use Rattle.hb_club.specs.WholeGames.{BringWhole}
 use Rattle.hb_playing.specs.Games.{game_after}
-use Rattle.hb_playing.specs.Reviews.{reviewed_by, steps_by, walk_of}
+use Rattle.hb_playing.specs.RoomReviews.{reviewed_by, steps_by, walk_of}
 use Rattle.hb_playing.specs.Seats.{seat_in}
 use Rattle.hb_table.specs.declared.room.Room.{Room}
 use Rattle.hb_table.specs.State.{state_at}

@@ -11,9 +11,9 @@ use Rattle.hb_club.specs.TableReview.{step_refusal}
 use Rattle.hb_refusals.specs.declared.facts.Facts.{Facts}
 use Rattle.hb_refusals.specs.FactRows.{opens_next_to, rows_on}
 use Rattle.hb_refusals.specs.KeptReplies.{count_at, kept_at, reply_of}
-use Rattle.hb_playing.specs.Clocks.{paused_by}
+use Rattle.hb_playing.specs.RoomClocks.{paused_by}
 use Rattle.hb_playing.specs.Games.{cards_by, ended_by, players_by, rule_by}
-use Rattle.hb_playing.specs.Reviews.{reviewed_by, steps_by}
+use Rattle.hb_playing.specs.RoomReviews.{reviewed_by, steps_by}
 use Rattle.hb_playing.specs.Seats.{seat_in}
 use Rattle.hb_table.specs.declared.room.Room.{Room}
 

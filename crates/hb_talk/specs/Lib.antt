@@ -5,5 +5,5 @@ pub mod Turns
 pub mod Sessions
 pub mod TalkLaws
 pub mod Keeping
-pub mod ClerkRounds
+pub mod LoneClerk
 pub mod Scripts

@@ -10,7 +10,7 @@ use Rattle.hb_talk.specs.declared.errands.Errand.TheVariants as errand
 use Rattle.hb_talk.specs.declared.scripts.ScriptLine.{ScriptLine}
 use Rattle.hb_talk.specs.declared.scripts.ScriptLine.TheVariants as line
 use Rattle.hb_talk.specs.declared.sessions.Session.{Session}
-use Rattle.hb_talk.specs.ClerkRounds.{Round, clerk_round}
+use Rattle.hb_talk.specs.LoneClerk.{Round, clerk_round}
 use Rattle.hb_talk.specs.Errands.{asked}
 use Rattle.hb_talk.specs.Keeping.{Keeping}
 use Rattle.hb_talk.specs.Sessions.{new_session}

@@ -14,7 +14,7 @@ use Rattle.hb_timer.specs.declared.clock.Phase.TheVariants.{Running, Paused, Sto
 use Rattle.hb_timer.specs.Banks.{bank, call_moment, effective, is_running, is_stopped, seat_of_turn, turn_number, turn_seat, IsOnTime}
 use Rattle.hb_timer.specs.Clock.{bank_at, runs, Passes}
 use Rattle.hb_timer.specs.Timer.{phase_of, IsKept}
-use Rattle.hb_timer.proofs.Banks.{bank-call, bank-turn, bank-later, bank-limit}
+use Rattle.hb_timer.proofs.BanksLemmas.{bank-call, bank-turn, bank-later, bank-limit}
 
 -- the phase runs where the calls do
 pub runs-phase_of : (calls : List TimerCall) → runs (phase_of calls) ≡ is_running calls

@@ -1,2 +1,2 @@
-pub mod Banks
+pub mod BanksLemmas
 pub mod Kept

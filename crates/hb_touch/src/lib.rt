@@ -122,7 +122,7 @@ pub fn touches(variant: &Variant, clue: Clue, id: Identity) -> bool
 }
 
 /// Whether the identity with a number is in the variant, and is touched or not as `touched` says.
-#[tactic(auto, using(hb_rules::proofs::Numbers::has_number_low))]
+#[tactic(auto, using(hb_rules::proofs::NumbersLemmas::has_number_low))]
 fn is_in_mask(variant: &Variant, clue_colors: &[u8], clue: Clue, touched: bool, number: u8) -> bool
     requires colors { clue_colors.now ≡ colors variant.now }
     requires offered { IsTrue (offers variant.now clue) }
@@ -137,7 +137,7 @@ fn is_in_mask(variant: &Variant, clue_colors: &[u8], clue: Clue, touched: bool, 
 
 /// The set of the variant's identities that the clue touches, or with `touched` false of those that
 /// it does not touch: bit `n` stands for the identity with number `n`. The variant offers the clue.
-#[tactic(auto, using(hb_rules::proofs::Numbers::has_number_low))]
+#[tactic(auto, using(hb_rules::proofs::NumbersLemmas::has_number_low))]
 pub fn mask(variant: &Variant, clue: Clue, touched: bool) -> u64
     requires { IsTrue (offers variant.now clue) }
     ensures { (n : ℕ) → (bit result n == 1)

@@ -27,12 +27,12 @@ use Rattle.hb_turns.specs.GameInvariant.{IsFair, IsTable, IsGame}
 use Rattle.hb_turns.specs.ClueMasks.{AreClueMasks, IsMask}
 use Rattle.hb_turns.specs.TableSteps.{HasRoom, IsCard, IsNarrowed, play_table, discard_table, clue_table, table_end}
 use Rattle.hb_turns.proofs.Fair.{held-below}
-use Rattle.hb_turns.proofs.Seats.{current-lt}
+use Rattle.hb_turns.proofs.SeatsLemmas.{current-lt}
 use Rattle.hb_turns.proofs.EndLemmas.{end-is}
 use Rattle.hb_turns.proofs.Bounds.{has-room, few-acts, not-called}
 use Rattle.hb_turns.proofs.PlayTable.{table-play, table-discard}
 use Rattle.hb_turns.proofs.ClueTable.{table-clue, table-end}
-use Rattle.hb_rules.proofs.Hands.{is_at-true}
+use Rattle.hb_rules.proofs.HandsLemmas.{is_at-true}
 
 -- room for one more act and for one more of each count, and no end was called
 pub record IsReady (past : List Act) (t : Table) : Type 0 where

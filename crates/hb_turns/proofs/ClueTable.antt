@@ -12,7 +12,7 @@ use Rattle.hb_rules.specs.Touch.{touches}
 use Rattle.hb_rules.specs.Hands.{holder, hand, is_at}
 use Rattle.hb_rules.specs.Result.{fits, turns, tokens, called}
 use Rattle.hb_rules.specs.Marks.{meets, same}
-use Rattle.hb_rules.proofs.Hands.{holder-past}
+use Rattle.hb_rules.proofs.HandsLemmas.{holder-past}
 use Rattle.hb_sets.specs.Sets.{bit}
 use Rattle.hb_turns.specs.declared.table.Table.{Table}
 use Rattle.hb_turns.specs.GameInvariant.{IsFair, IsTable}

@@ -1,6 +1,6 @@
-pub mod Start
+pub mod StartLemmas
 pub mod Fair
-pub mod Seats
+pub mod SeatsLemmas
 pub mod Emptied
 pub mod ClueMaskLemmas
 pub mod NextMember
@@ -11,5 +11,5 @@ pub mod ClueTable
 pub mod EndLemmas
 pub mod Bounds
 pub mod Acts
-pub mod Views
+pub mod ViewsLemmas
 pub mod OrderBits

@@ -7,7 +7,7 @@ use Rattle.std.proofs.lemmas.List.{length-set, get_or-set_same, get_or-set_other
 use Rattle.std.proofs.lemmas.List.Folds.{list_any-append}
 use Rattle.hb_rules.specs.declared.setups.Setup.{Setup}
 use Rattle.hb_rules.specs.Marks.{same}
-use Rattle.hb_rules.proofs.Ranges.{filter-range_more}
+use Rattle.hb_rules.proofs.RangesLemmas.{filter-range_more}
 use Rattle.hb_sets.specs.Sets.{bit}
 use Rattle.hb_turns.specs.TableSteps.{IsNarrowed, is_among, is_alike}
 

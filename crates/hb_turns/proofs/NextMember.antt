@@ -6,7 +6,7 @@ use Rattle.std.specs.Int.Count.{count_trailing_zeros}
 use Rattle.std.proofs.lemmas.Nat.{pow_pos}
 use Rattle.std.proofs.lemmas.Nat.Bits.{bit_at_cat_high, bit_at-trailing_zeros}
 use Rattle.std.proofs.Math.Nat.{mod-lt, div-add-mod', div-le_self}
-use Rattle.hb_rules.proofs.Ranges.{filter-range_more}
+use Rattle.hb_rules.proofs.RangesLemmas.{filter-range_more}
 use Rattle.hb_sets.specs.Sets.{bit}
 use Rattle.hb_sets.proofs.Bits.{bit-zero, member-lt}
 use Rattle.hb_turns.specs.Members.{IsNext, IsEndFrom}

@@ -26,7 +26,7 @@ use Rattle.hb_club.specs.Views.{View, blind_of}
 use Rattle.hb_talk.specs.Streams.{clock_lines, game_lines}
 use Rattle.hb_view.specs.declared.clocks.Clock.{Clock}
 use Rattle.hb_view.specs.declared.cursors.Cursor.{Cursor}
-use Rattle.hb_view.specs.Clocks.{ClockMoves, clock_if, clock_texts}
+use Rattle.hb_view.specs.StreamClocks.{ClockMoves, clock_if, clock_texts}
 use Rattle.hb_view.specs.Cursors.{IsKept, IsKeptClock, IsKeptGame}
 use Rattle.hb_view.specs.GameTexts.{piece_lines}
 use Rattle.hb_view.specs.StreamViews.{IsStream}

@@ -11,7 +11,7 @@ use Rattle.hb_timer.specs.declared.timing.Timing.{Timing}
 use Rattle.hb_timer.specs.declared.timing.TimerCall.{TimerCall}
 use Rattle.hb_timer.specs.declared.timing.TimerCall.TheVariants.{TurnEnds}
 use Rattle.hb_timer.specs.Banks.{bank, call_moment, is_running, seat_of_turn, turn_number, turn_seat}
-use Rattle.hb_timer.proofs.Banks.{bank-call, bank-turn, bank-later}
+use Rattle.hb_timer.proofs.BanksLemmas.{bank-call, bank-turn, bank-later}
 use Rattle.hb_timer.proofs.Kept.{turn_seat-below}
 use Rattle.hb_wire.specs.declared.lines.WireLine.TheVariants as wire
 use Rattle.hb_wire.specs.WireLine.{line_text}
@@ -19,7 +19,7 @@ use Rattle.hb_club.specs.declared.items.Item.{Item}
 use Rattle.hb_club.specs.TableClock.{timer_calls, timing_of}
 use Rattle.hb_talk.specs.Streams.{clock_line, clock_lines}
 use Rattle.hb_view.specs.declared.clocks.Clock.{Clock}
-use Rattle.hb_view.specs.Clocks.{ClockMoves, HasPassed, IsClock, bank_at, clock_if, clock_text, clock_texts}
+use Rattle.hb_view.specs.StreamClocks.{ClockMoves, HasPassed, IsClock, bank_at, clock_if, clock_text, clock_texts}
 use Rattle.hb_view.specs.Cursors.{IsKeptClock}
 use Rattle.hb_view.proofs.TextListLemmas.{map-below_more}
 

@@ -17,7 +17,7 @@ use Rattle.hb_club.specs.TableRecord.{AreInOrder}
 use Rattle.hb_talk.specs.Streams.{stopped_clock}
 use Rattle.hb_view.specs.declared.clocks.Clock.{Clock}
 use Rattle.hb_view.specs.declared.cursors.Cursor.{Cursor}
-use Rattle.hb_view.specs.Clocks.{ClockMoves, clock_texts}
+use Rattle.hb_view.specs.StreamClocks.{ClockMoves, clock_texts}
 use Rattle.hb_view.specs.Cursors.{IsKeptClock}
 use Rattle.hb_view.specs.Writing.{Writes}
 use Rattle.hb_view.proofs.ClockLemmas.{clock_texts-line, kept_clock-call}

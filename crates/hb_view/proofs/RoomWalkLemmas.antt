@@ -13,7 +13,7 @@ use Rattle.hb_club.specs.declared.items.What.TheVariants as what
 use Rattle.hb_club.specs.ClerkCalls.{is_due, is_pending, noted_by, notice_id, pending_load}
 use Rattle.hb_club.specs.CommandKinds.{is_open}
 use Rattle.hb_club.specs.EndedReplays.{Finished}
-use Rattle.hb_club.specs.KeptReplies.{OwnEntry}
+use Rattle.hb_club.specs.OwnEntries.{OwnEntry}
 use Rattle.hb_club.specs.NewItems.{entry_stamp, item_of, stamp_at, stamped_item, step_item}
 use Rattle.hb_club.specs.RoomEvents.{AsksTodo, Call, Happening, Loaded, Notes, Notice, RoomEvent, Saved, Site, event_moment, in_time}
 use Rattle.hb_club.specs.Rooms.{entry_item, happening, past_of}

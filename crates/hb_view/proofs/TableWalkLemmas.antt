@@ -27,7 +27,7 @@ use Rattle.hb_club.specs.declared.items.Item.{Item}
 use Rattle.hb_club.specs.declared.items.What.TheVariants as what
 use Rattle.hb_club.specs.CommandKinds.{is_open}
 use Rattle.hb_club.specs.EndedReplays.{Finished}
-use Rattle.hb_club.specs.KeptReplies.{OwnEntry}
+use Rattle.hb_club.specs.OwnEntries.{OwnEntry}
 use Rattle.hb_club.specs.NewItems.{by_seat, item_of, stamped_item, step_item}
 use Rattle.hb_club.specs.RoomEvents.{Site}
 use Rattle.hb_club.specs.Seating.{players, seated_names}

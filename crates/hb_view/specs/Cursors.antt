@@ -14,7 +14,7 @@ use Rattle.hb_club.specs.TableItems.{acts, is_started, steps}
 use Rattle.hb_club.specs.Views.{View}
 use Rattle.hb_view.specs.declared.clocks.Clock.{Clock}
 use Rattle.hb_view.specs.declared.cursors.Cursor.{Cursor}
-use Rattle.hb_view.specs.Clocks.{IsClock}
+use Rattle.hb_view.specs.StreamClocks.{IsClock}
 use Rattle.hb_view.specs.StreamViews.{view_review}
 
 -- a game stands after these acts, with the variant, the options and the players of a setup. Which

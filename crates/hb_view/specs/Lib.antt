@@ -1,4 +1,4 @@
-pub mod Clocks
+pub mod StreamClocks
 pub mod GameTexts
 pub mod StreamViews
 pub mod Cursors

@@ -6,7 +6,7 @@ ghost use Rattle.hb_club.specs.declared.items.What.TheVariants as what;
 ghost use Rattle.hb_club.specs.TableClock.{act_call as act_call_of};
 ghost use Rattle.hb_club.specs.TableRecord.{HasSeat};
 ghost use Rattle.hb_club.specs.Views.{blind_of};
-ghost use Rattle.hb_view.specs.Clocks.{clock_if as clock_if_of, clock_texts, ClockMoves};
+ghost use Rattle.hb_view.specs.StreamClocks.{clock_if as clock_if_of, clock_texts, ClockMoves};
 ghost use Rattle.hb_view.specs.GameTexts.{piece_lines};
 ghost use Rattle.hb_view.specs.Writing.{Writes};
 

@@ -5,7 +5,7 @@ ghost use Rattle.std.specs.List.{range_with_len};
 ghost use Rattle.hb_timer.specs.declared.timing.TimerCall.{TimerCall as Call};
 ghost use Rattle.hb_timer.specs.declared.timing.TimerCall.TheVariants.{TurnEnds};
 ghost use Rattle.hb_timer.specs.Banks.{call_moment, is_running, turn_number};
-ghost use Rattle.hb_view.specs.Clocks.{bank_at, HasPassed, IsClock};
+ghost use Rattle.hb_view.specs.StreamClocks.{bank_at, HasPassed, IsClock};
 
 use arrayvec::ArrayVec;
 use hb_timer::{BANK_LIMIT, MOST_SEATS, TimerCall, Timing};

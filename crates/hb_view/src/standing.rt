@@ -7,7 +7,7 @@ ghost use Rattle.hb_wire.specs.Lines.{state_line as state_line_of};
 ghost use Rattle.hb_game_lines.specs.HandLines.{hand_line_of};
 ghost use Rattle.hb_game_lines.specs.Standing.{seen_state};
 ghost use Rattle.hb_talk.specs.Streams.{standing_lines};
-ghost use Rattle.hb_view.specs.Clocks.{clock_if as clock_if_of, clock_texts};
+ghost use Rattle.hb_view.specs.StreamClocks.{clock_if as clock_if_of, clock_texts};
 
 use crate::clocks::Clock;
 use crate::texts::push_line;

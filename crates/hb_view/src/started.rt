@@ -7,7 +7,7 @@ ghost use Rattle.hb_club.specs.Views.{blind_of};
 ghost use Rattle.hb_turns.specs.GameInvariant.{IsPlayed};
 ghost use Rattle.hb_wire.specs.Lines.{game_line};
 ghost use Rattle.hb_view.specs.declared.cursors.Cursor.{Cursor as Kept};
-ghost use Rattle.hb_view.specs.Clocks.{clock_if as clock_if_of, clock_texts, IsClock};
+ghost use Rattle.hb_view.specs.StreamClocks.{clock_if as clock_if_of, clock_texts, IsClock};
 ghost use Rattle.hb_view.specs.GameTexts.{piece_lines};
 ghost use Rattle.hb_view.specs.Writing.{Writes};
 

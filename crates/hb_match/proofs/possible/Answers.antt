@@ -1,4 +1,4 @@
-use Rattle.hb_match.proofs.Sets.{possible_none}
+use Rattle.hb_match.proofs.SetsLemmas.{possible_none}
 use Rattle.hb_match.proofs.possible.Goals as goal
 
 pub returns-clause-none : goal.returns-clause-none

@@ -1,5 +1,5 @@
 use Rattle.std.proofs.Common.{arith, slice_index}
-use Rattle.hb_match.proofs.Sets.{exact_more, possible_same, all_none}
+use Rattle.hb_match.proofs.SetsLemmas.{exact_more, possible_same, all_none}
 use Rattle.hb_match.proofs.possible_all.Goals as goal
 
 pub loop-card-preserved : goal.loop-card-preserved

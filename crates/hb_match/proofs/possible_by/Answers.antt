@@ -2,7 +2,7 @@ use Rattle.std.proofs.Common.{subst}
 use Rattle.hb_match.specs.declared.Verdict.{Verdict}
 use Rattle.hb_match.specs.declared.Verdict.TheVariants.{Blocked}
 use Rattle.hb_match.specs.Verdict.{Decides}
-use Rattle.hb_match.proofs.Sets.{none_possible}
+use Rattle.hb_match.proofs.SetsLemmas.{none_possible}
 use Rattle.hb_match.proofs.possible_by.Goals as goal
 
 pub returns-in-Blocked : goal.returns-in-Blocked

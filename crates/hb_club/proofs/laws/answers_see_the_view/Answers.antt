@@ -1,5 +1,5 @@
 use Rattle.std.proofs.Common.{List, ap, sym, ◌∙◌}
-use Rattle.hb_club.specs.KeptReplies.{OwnEntry}
+use Rattle.hb_club.specs.OwnEntries.{OwnEntry}
 use Rattle.hb_club.specs.RoomEvents.{Call, Replied, event_moment}
 use Rattle.hb_club.specs.Rooms.{answer_to, past_of}
 use Rattle.hb_club.specs.SeenTable.{answer}

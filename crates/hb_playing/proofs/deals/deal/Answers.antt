@@ -1,6 +1,6 @@
 use Rattle.std.proofs.Common.{ap, sym, ◌∙◌}
 use Rattle.hb_suits.specs.VariantNames.{variant_of}
-use Rattle.hb_playing.specs.Deals.{site_with}
+use Rattle.hb_playing.specs.RoomDeals.{site_with}
 use Rattle.hb_playing.proofs.DealsLemmas.{if_ok-more, started-dealt}
 use Rattle.hb_playing.proofs.deals.deal.Goals as goal
 

@@ -1,7 +1,7 @@
 use Rattle.std.proofs.Common.{sym, subst, ◌∙◌}
 use Rattle.hb_rules.specs.Cards.{IsDeck}
 use Rattle.hb_club.proofs.TableLoadsLemmas.{false-true}
-use Rattle.hb_playing.specs.Deals.{site_with}
+use Rattle.hb_playing.specs.RoomDeals.{site_with}
 use Rattle.hb_playing.proofs.DealsLemmas.{if_ok-more, none-started, other-started, written-started}
 use Rattle.hb_playing.proofs.deals.deal_variant.Goals as goal
 

@@ -1,4 +1,4 @@
-use Rattle.hb_refusals.proofs.OwnEntriesLemmas.{kept_reply-own, own_after-stands}
+use Rattle.hb_refusals.proofs.OwnRepliesLemmas.{kept_reply-own, own_after-stands}
 use Rattle.hb_refusals.proofs.laws.replies_stand_for_entries.Goals as goal
 
 pub returns-clause-moves : goal.returns-clause-moves

@@ -1,6 +1,6 @@
 use Rattle.std.proofs.Common.{◌≡◌, take, Ok}
 use Rattle.sqlite.specs.Held.{state}
-use Rattle.hb_sqlite.specs.Seats.{lines_at}
+use Rattle.hb_sqlite.specs.SeatIds.{lines_at}
 use Rattle.hb_sqlite.specs.StoreSteps.{Reads}
 use Rattle.hb_sqlite.specs.declared.errors.Failure.{Failure}
 use Rattle.hb_sqlite.proofs.members.read_lines.Given as goal

@@ -1,7 +1,7 @@
 use Rattle.std.proofs.Common.{◌≡◌, take, Ok}
 use Rattle.sqlite.specs.Held.{state}
 use Rattle.hb_keeper.specs.KeptGames.{row_of_id}
-use Rattle.hb_sqlite.specs.Facts.{names_in}
+use Rattle.hb_sqlite.specs.StoreTables.{names_in}
 use Rattle.hb_sqlite.specs.StoreSteps.{Reads}
 use Rattle.hb_sqlite.specs.declared.errors.Failure.{Failure}
 use Rattle.hb_sqlite.proofs.reading.names_of.Given as goal

@@ -3,7 +3,7 @@ use Rattle.sqlite_value.specs.Order.{Row}
 use Rattle.sqlite.specs.Held.{state}
 use Rattle.hb_keeper.specs.declared.rows.Key.{Key}
 use Rattle.hb_keeper.specs.declared.rows.GameRow.{GameRow}
-use Rattle.hb_sqlite.specs.Facts.{seats_from}
+use Rattle.hb_sqlite.specs.StoreTables.{seats_from}
 use Rattle.hb_sqlite.specs.Within.{Placing, DoesWithin}
 use Rattle.hb_sqlite.specs.declared.errors.Failure.{Failure}
 use Rattle.hb_sqlite.proofs.writing.insert_seats.Given as goal

@@ -1,6 +1,6 @@
 use Rattle.std.proofs.Common.{length, arith}
 use Rattle.hb_rules.specs.Cards.{suit_cards}
-use Rattle.hb_rules.proofs.Ranges.{sum_by-range_more}
+use Rattle.hb_rules.proofs.RangesLemmas.{sum_by-range_more}
 use Rattle.hb_rules.proofs.DeckSize.{cards-many}
 use Rattle.hb_suits.proofs.Sizes.{size_of-all}
 use Rattle.hb_suits.proofs.cards.deck_size.Goals as goal

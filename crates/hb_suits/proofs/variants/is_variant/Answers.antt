@@ -1,5 +1,5 @@
 use Rattle.std.proofs.Common.{arith}
-use Rattle.hb_suits.proofs.Places.{is_variant-placed}
+use Rattle.hb_suits.proofs.PlacesLemmas.{is_variant-placed}
 use Rattle.hb_suits.proofs.variants.is_variant.Goals as goal
 
 pub returns-then-have_color : goal.returns-then-have_color

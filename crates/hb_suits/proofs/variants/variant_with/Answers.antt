@@ -2,7 +2,7 @@ use Rattle.std.proofs.Common.{◌≡◌, ◌≢◌, ◌<◌, ◌≤◌, ◌∙�
 use Rattle.std.proofs.Math.ListN.{length-set}
 use Rattle.hb_rules.specs.declared.suits.Suit.{Suit}
 use Rattle.hb_suits.specs.Variants.{placed}
-use Rattle.hb_suits.proofs.Places.{option_copied-get, placed-filled, is_variant-few, variant_with-some, variant_with-none}
+use Rattle.hb_suits.proofs.PlacesLemmas.{option_copied-get, placed-filled, is_variant-few, variant_with-some, variant_with-none}
 use Rattle.hb_suits.proofs.variants.variant_with.Goals as goal
 
 pub returns-then-not-is_variant : goal.returns-then-not-is_variant

@@ -1,6 +1,6 @@
 use Rattle.std.proofs.Common.{◌/◌, refl}
 use Rattle.hb_rules.specs.Setup.{hand_size}
-use Rattle.hb_turns.proofs.Start.{none-dealt}
+use Rattle.hb_turns.proofs.StartLemmas.{none-dealt}
 use Rattle.hb_turns.proofs.deals.dealt.Goals as goal
 
 pub loop-order-init : goal.loop-order-init

@@ -1,5 +1,5 @@
 use Rattle.std.proofs.Common.{refl}
-use Rattle.hb_turns.proofs.Start.{none-held}
+use Rattle.hb_turns.proofs.StartLemmas.{none-held}
 use Rattle.hb_turns.proofs.deals.dealt_hands.Goals as goal
 
 pub loop-order-init : goal.loop-order-init

@@ -1,6 +1,6 @@
 use Rattle.std.proofs.Common.{[], ◌∷◌, refl}
 use Rattle.hb_wire.specs.WireLine.{line_text}
-use Rattle.hb_view.specs.Clocks.{clock_texts}
+use Rattle.hb_view.specs.StreamClocks.{clock_texts}
 use Rattle.hb_view.proofs.TextListLemmas.{on_ok-two_parts}
 use Rattle.hb_view.proofs.paused.push_with_clock.Goals as goal
 

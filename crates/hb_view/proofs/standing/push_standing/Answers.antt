@@ -4,7 +4,7 @@ use Rattle.hb_rules.specs.Observed.{observed}
 use Rattle.hb_wire.specs.Lines.{state_line}
 use Rattle.hb_game_lines.specs.HandLines.{hand_line_of}
 use Rattle.hb_game_lines.specs.Standing.{seen_state}
-use Rattle.hb_view.specs.Clocks.{clock_texts}
+use Rattle.hb_view.specs.StreamClocks.{clock_texts}
 use Rattle.hb_view.proofs.TextListLemmas.{on_ok-three_parts}
 use Rattle.hb_view.proofs.standing.push_standing.Goals as goal
 

@@ -4,7 +4,7 @@ use Rattle.hb_rules.specs.Observed.{observed}
 use Rattle.hb_wire.specs.Lines.{event_line}
 use Rattle.hb_club.specs.Views.{blind_of}
 use Rattle.hb_talk.specs.Streams.{standing_lines}
-use Rattle.hb_view.specs.Clocks.{clock_if, clock_texts}
+use Rattle.hb_view.specs.StreamClocks.{clock_if, clock_texts}
 use Rattle.hb_view.proofs.TextListLemmas.{on_ok-two_parts}
 use Rattle.hb_view.proofs.started.push_start.Goals as goal
 

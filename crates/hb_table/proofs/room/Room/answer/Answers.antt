@@ -1,5 +1,5 @@
 use Rattle.std.proofs.Common.{arith}
-use Rattle.hb_table.proofs.ShowsLemmas.{answer-shows}
+use Rattle.hb_table.proofs.RoomShowsLemmas.{answer-shows}
 use Rattle.hb_table.proofs.room.Room.answer.Goals as goal
 
 pub answered-requires-clause-few : goal.answered-requires-clause-few

@@ -1,5 +1,5 @@
 use Rattle.std.proofs.Common.{◌≡◌, ℕ, length, rules, subst}
-use Rattle.hb_playing.specs.Deals.{IsDealt}
+use Rattle.hb_playing.specs.RoomDeals.{IsDealt}
 use Rattle.hb_table.specs.Keeps.{site_in}
 use Rattle.hb_table.proofs.room.Room.deal_game.Goals as goal
 

@@ -1,5 +1,5 @@
 use Rattle.std.proofs.Common.{◌∙◌}
-use Rattle.hb_table.proofs.ShowsLemmas.{game_of-in}
+use Rattle.hb_table.proofs.RoomShowsLemmas.{game_of-in}
 use Rattle.hb_table.proofs.room.Room.game.Goals as goal
 
 pub returns : goal.returns

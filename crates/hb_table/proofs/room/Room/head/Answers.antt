@@ -1,5 +1,5 @@
 use Rattle.std.proofs.Common.{◌∙◌}
-use Rattle.hb_table.proofs.ShowsLemmas.{head_of-in}
+use Rattle.hb_table.proofs.RoomShowsLemmas.{head_of-in}
 use Rattle.hb_table.proofs.room.Room.head.Goals as goal
 
 pub returns : goal.returns

@@ -3,7 +3,7 @@ use Rattle.hb_rules.specs.declared.acts.Options.{Options}
 use Rattle.hb_club.specs.RoomEvents.{in_time}
 use Rattle.hb_club.specs.TableFacts.{held_options, opening_by}
 use Rattle.hb_table.specs.Changes.{OpensTable}
-use Rattle.hb_table.proofs.OpenLemmas.{open-steps}
+use Rattle.hb_table.proofs.RoomOpenLemmas.{open-steps}
 use Rattle.hb_club.specs.declared.commands.Command.{Command}
 use Rattle.hb_table.proofs.HeadLemmas.{open-moves}
 use Rattle.hb_table.proofs.room.Room.open_as.Goals as goal

@@ -5,7 +5,7 @@ use Rattle.hb_club.specs.NewItems.{by_seat}
 use Rattle.hb_table.specs.Changes.{StartsGame}
 use Rattle.hb_table.specs.Starts.{timer_when}
 use Rattle.hb_table.specs.Steps.{stamp_for}
-use Rattle.hb_table.proofs.OpenLemmas.{start-steps}
+use Rattle.hb_table.proofs.RoomOpenLemmas.{start-steps}
 use Rattle.hb_table.proofs.HeadLemmas.{start-moves}
 use Rattle.hb_table.proofs.room.Room.start_next.Goals as goal
 

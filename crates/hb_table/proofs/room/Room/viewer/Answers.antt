@@ -1,7 +1,7 @@
 use Rattle.std.proofs.Common.{◌∙◌}
 use Rattle.hb_table.specs.State.{state_at}
 use Rattle.hb_table.specs.Keeps.{site_in}
-use Rattle.hb_table.proofs.ShowsLemmas.{viewer-in}
+use Rattle.hb_table.proofs.RoomShowsLemmas.{viewer-in}
 use Rattle.hb_table.proofs.room.Room.viewer.Goals as goal
 
 pub returns : goal.returns

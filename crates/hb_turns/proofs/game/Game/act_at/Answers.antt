@@ -1,6 +1,6 @@
 use Rattle.hb_rules.specs.declared.acts.Act.{Act}
 use Rattle.hb_rules.specs.declared.acts.Action.TheVariants as action
-use Rattle.hb_turns.proofs.Views.{act-inside}
+use Rattle.hb_turns.proofs.ViewsLemmas.{act-inside}
 use Rattle.hb_turns.proofs.game.Game.act_at.Goals as goal
 
 abbrev none : Act

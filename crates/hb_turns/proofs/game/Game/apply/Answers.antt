@@ -1,7 +1,7 @@
 use Rattle.std.proofs.Common.{arith, ◌∙◌, ◌<◌, length, reverse, refl}
 use Rattle.std.proofs.lemmas.List.{length-reverse}
 use Rattle.hb_rules.proofs.Rules.{may_clue, MayClue}
-use Rattle.hb_turns.proofs.Views.{may-inside, hand-inside, mask-inside}
+use Rattle.hb_turns.proofs.ViewsLemmas.{may-inside, hand-inside, mask-inside}
 use Rattle.hb_turns.proofs.Acts.{IsReady, is-ready, play-card, discard-card, play-takes, discard-takes, hand-cards, within-all, after-play, after-discard, after-clue, after-end}
 use Rattle.hb_turns.proofs.game.Game.apply.Goals as goal
 use Rattle.hb_turns.proofs.game.Game.apply.Goals.{in-Play, in-Discard, in-Clue, in-End}

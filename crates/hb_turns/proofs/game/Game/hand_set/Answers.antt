@@ -1,5 +1,5 @@
 use Rattle.std.proofs.Common.{arith, reverse}
-use Rattle.hb_turns.proofs.Seats.{bit-holder_none}
+use Rattle.hb_turns.proofs.SeatsLemmas.{bit-holder_none}
 use Rattle.hb_turns.proofs.game.Game.hand_set.Goals as goal
 
 pub returns-else-from-lt-SEATS-clause-set : goal.returns-else-from-lt-SEATS-clause-set

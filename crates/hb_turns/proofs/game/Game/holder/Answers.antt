@@ -1,5 +1,5 @@
 use Rattle.std.proofs.Common.{arith, ◌≤◌, length, sym, reverse}
-use Rattle.hb_rules.proofs.Hands.{holder-past}
+use Rattle.hb_rules.proofs.HandsLemmas.{holder-past}
 use Rattle.hb_turns.proofs.game.Game.holder.Goals as goal
 
 pub returns-else-from-lt-MOST_CARDS-clause-holder : goal.returns-else-from-lt-MOST_CARDS-clause-holder

@@ -1,5 +1,5 @@
 use Rattle.std.proofs.Common.{arith, ◌<◌, length, reverse}
-use Rattle.hb_turns.proofs.Views.{held-low}
+use Rattle.hb_turns.proofs.ViewsLemmas.{held-low}
 use Rattle.hb_turns.proofs.game.Game.marks.Goals as goal
 
 pub bounds-self-inside-from : goal.bounds-self-inside-from

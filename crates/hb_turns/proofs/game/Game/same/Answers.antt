@@ -1,5 +1,5 @@
 use Rattle.std.proofs.Common.{◌∙◌}
-use Rattle.hb_turns.proofs.Start.{same-kept}
+use Rattle.hb_turns.proofs.StartLemmas.{same-kept}
 use Rattle.hb_turns.proofs.game.Game.same.Goals as goal
 
 pub invariant_of-result : goal.invariant_of-result

@@ -1,6 +1,6 @@
 use Rattle.std.proofs.Common.{arith, sym}
 use Rattle.hb_rules.specs.Result.{height}
-use Rattle.hb_rules.proofs.Ranges.{sum_by-range_more}
+use Rattle.hb_rules.proofs.RangesLemmas.{sum_by-range_more}
 use Rattle.hb_turns.proofs.game.Game.stacked.Goals as goal
 
 pub loop-suit-preserved : goal.loop-suit-preserved

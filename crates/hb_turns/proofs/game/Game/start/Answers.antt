@@ -2,7 +2,7 @@ use Rattle.std.proofs.Common.{arith, ◌≡◌, true, sym, ◌∙◌}
 use Rattle.hb_rules.specs.Start.{are_players, are_options}
 use Rattle.hb_rules.specs.Cards.{IsDeck}
 use Rattle.hb_rules.proofs.DeckSize.{deck-few}
-use Rattle.hb_turns.proofs.Start.{fair-start}
+use Rattle.hb_turns.proofs.StartLemmas.{fair-start}
 use Rattle.hb_turns.proofs.game.Game.start.Goals as goal
 
 pub copied-requires : goal.copied-requires

@@ -5,7 +5,7 @@ use Rattle.hb_rules.specs.Setup.{card}
 use Rattle.hb_rules.specs.Touch.{touches}
 use Rattle.hb_turns.proofs.Acts.{deck-order}
 use Rattle.hb_turns.proofs.OrderBits.{bits-passed, bits-left_out}
-use Rattle.hb_turns.proofs.Views.{in-hand, touches-inside}
+use Rattle.hb_turns.proofs.ViewsLemmas.{in-hand, touches-inside}
 use Rattle.hb_turns.proofs.game.Game.touched.Goals as goal
 use Rattle.hb_turns.proofs.game.Game.touched.Goals.{then-has, else-has}
 

@@ -1,7 +1,7 @@
 use Rattle.std.proofs.Common.{refl, ◌+◌, ◌*◌, length}
 use Rattle.hb_rules.specs.Cards.{has_number}
 use Rattle.hb_rules.specs.Setup.{deal_size}
-use Rattle.hb_turns.proofs.Start.{slice_index-replicate, all-marked, start-emptied}
+use Rattle.hb_turns.proofs.StartLemmas.{slice_index-replicate, all-marked, start-emptied}
 use Rattle.hb_turns.proofs.table.Table.start.Goals as goal
 
 pub returns : goal.returns

@@ -3,7 +3,7 @@ use Rattle.hb_sets.specs.Sets.{bit}
 use Rattle.hb_sets.proofs.Bits.{bit-lt}
 use Rattle.hb_turns.proofs.HandBits.{bit-xor}
 use Rattle.hb_turns.proofs.Narrow.{alike-touched, alike-other}
-use Rattle.hb_turns.proofs.Views.{iff-test}
+use Rattle.hb_turns.proofs.ViewsLemmas.{iff-test}
 use Rattle.hb_turns.proofs.table.marks.narrowed.Goals as goal
 use Rattle.hb_turns.proofs.table.marks.narrowed.Goals.{then-has, else-has}
 

@@ -1,5 +1,5 @@
 use Rattle.std.proofs.Common.{arith, sym}
-use Rattle.hb_view.specs.Clocks.{bank_at}
+use Rattle.hb_view.specs.StreamClocks.{bank_at}
 use Rattle.hb_view.proofs.TextListLemmas.{map-below_more}
 use Rattle.hb_view.proofs.clocks.Clock.banks_at.Goals as goal
 

@@ -1,6 +1,6 @@
 use Rattle.std.proofs.Common.{◌≡◌, ◌≤◌, length, map}
 use Rattle.std.specs.List.{range_with_len}
-use Rattle.hb_view.specs.Clocks.{bank_at}
+use Rattle.hb_view.specs.StreamClocks.{bank_at}
 use Rattle.hb_view.proofs.clocks.Clock.banks_at.Given as goal
 
 abbrev pub invariant-loop-seat : goal.invariant-loop-seat

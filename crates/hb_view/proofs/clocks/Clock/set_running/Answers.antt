@@ -1,5 +1,5 @@
 use Rattle.std.proofs.Common.{subst, ℕ}
-use Rattle.hb_view.specs.Clocks.{HasPassed}
+use Rattle.hb_view.specs.StreamClocks.{HasPassed}
 use Rattle.hb_view.proofs.ClockLemmas.{clock-call, clock-seat}
 use Rattle.hb_view.proofs.clocks.Clock.set_running.Goals as goal
 

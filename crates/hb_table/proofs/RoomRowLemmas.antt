@@ -13,7 +13,7 @@ use Rattle.hb_club.specs.declared.replies.Refusal.TheVariants as refusal
 use Rattle.hb_club.specs.declared.replies.Reply.{Reply}
 use Rattle.hb_club.specs.declared.replies.Reply.TheVariants.{Done, Refused}
 use Rattle.hb_club.specs.CommandKinds.{asked_shadow, is_act, is_close, is_for_beginning, is_for_game, is_for_gathering, is_for_host, is_open, is_pause, is_resume, is_review_step, is_sit, is_start}
-use Rattle.hb_club.specs.KeptReplies.{is_done}
+use Rattle.hb_club.specs.OwnEntries.{is_done}
 use Rattle.hb_club.specs.TableRefusals.{first_reply, for_some, number_limit, when}
 use Rattle.hb_refusals.specs.declared.facts.Facts.{Facts}
 use Rattle.hb_refusals.specs.FactRows.{end_rows_on, game_rows_on, opens_next_to, rows_on, seat_rows_on, serial_rows_on, start_rows_on}

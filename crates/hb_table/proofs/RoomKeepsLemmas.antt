@@ -18,7 +18,7 @@ use Rattle.hb_club.specs.declared.replies.Reply.{Reply}
 use Rattle.hb_club.specs.declared.replies.Reply.TheVariants.{Done, Refused}
 use Rattle.hb_club.specs.ClerkCalls.{SetNote}
 use Rattle.hb_club.specs.CommandKinds.{asked_id}
-use Rattle.hb_club.specs.KeptReplies.{OwnEntry, accepted_load, is_done, is_kept, kept_entry, pending_id}
+use Rattle.hb_club.specs.OwnEntries.{OwnEntry, accepted_load, is_done, is_kept, kept_entry, pending_id}
 use Rattle.hb_club.specs.NewItems.{greatest_stamp}
 use Rattle.hb_club.specs.Seating.{seated_after, seated_names, watchers, watchers_after}
 use Rattle.hb_club.specs.Table.{Table}
@@ -30,8 +30,8 @@ use Rattle.hb_refusals.specs.declared.kept_replies.KeptReplies.{KeptReplies}
 use Rattle.hb_refusals.specs.declared.kept_replies.KeptReply.{KeptReply}
 use Rattle.hb_refusals.specs.KeptReplies.{SameReplies, is_keepable, kept_of}
 use Rattle.hb_refusals.specs.ReplyLaws.{StandsForOwn, own_after}
-use Rattle.hb_refusals.proofs.OwnEntriesLemmas.{is_first-own, own_after-stands}
-use Rattle.hb_playing.specs.Clocks.{timer_after}
+use Rattle.hb_refusals.proofs.OwnRepliesLemmas.{is_first-own, own_after-stands}
+use Rattle.hb_playing.specs.RoomClocks.{timer_after}
 use Rattle.hb_playing.specs.Games.{game_after}
 use Rattle.hb_table.specs.declared.room.Room.{Room}
 use Rattle.hb_table.specs.State.{SameState, State, history_in, host_load, position_in}

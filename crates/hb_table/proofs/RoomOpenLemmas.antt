@@ -23,7 +23,7 @@ use Rattle.hb_club.specs.declared.replies.Reply.{Reply}
 use Rattle.hb_club.specs.declared.replies.Reply.TheVariants.{Done, Refused}
 use Rattle.hb_club.specs.CommandKinds.{asked_id, is_start}
 use Rattle.hb_club.specs.EndedReplays.{Finished}
-use Rattle.hb_club.specs.KeptReplies.{OwnEntry, is_done}
+use Rattle.hb_club.specs.OwnEntries.{OwnEntry, is_done}
 use Rattle.hb_club.specs.NewItems.{by_seat}
 use Rattle.hb_club.specs.RoomEvents.{Call, Replied, Site, event_moment, in_time}
 use Rattle.hb_club.specs.Rooms.{past_of}
@@ -35,9 +35,9 @@ use Rattle.hb_club.specs.TableReview.{reviewed_game}
 use Rattle.hb_club.proofs.OwnEntriesLemmas.{own_entries-quiet}
 use Rattle.hb_refusals.specs.declared.kept_replies.KeptReplies.{KeptReplies}
 use Rattle.hb_refusals.specs.ReplyLaws.{StandsForOwn}
-use Rattle.hb_playing.specs.Clocks.{new_timer, timer_of}
+use Rattle.hb_playing.specs.RoomClocks.{new_timer, timer_of}
 use Rattle.hb_playing.specs.Games.{ended_by}
-use Rattle.hb_playing.specs.Reviews.{walk_of}
+use Rattle.hb_playing.specs.RoomReviews.{walk_of}
 use Rattle.hb_table.specs.declared.room.Room.{Room}
 use Rattle.hb_table.specs.State.{State, history_in, position_in, reviewed_by}
 use Rattle.hb_table.specs.StateMoves.{accepts, item_at, reply_in, stamp_in, started_table, timed_state, with_entry, with_start, with_table}
@@ -48,7 +48,7 @@ use Rattle.hb_table.specs.Starts.{IsDealtFor, IsStarting, timer_when}
 use Rattle.hb_table.specs.Steps.{Steps, Timed, stamp_for}
 use Rattle.hb_table.specs.Verdicts.{opens_in}
 use Rattle.hb_table.proofs.ClerkStateLemmas.{answer_to-call}
-use Rattle.hb_table.proofs.KeepsLemmas.{entry-keeps, open-keeps}
+use Rattle.hb_table.proofs.RoomKeepsLemmas.{entry-keeps, open-keeps}
 use Rattle.hb_table.proofs.KeptEntriesLemmas.{next-above, opens_table, own_entries-unkept}
 use Rattle.hb_table.proofs.PendingStateLemmas.{host_load-item}
 use Rattle.hb_table.proofs.SoundLemmas.{Sound, not-some, unstarted-position}

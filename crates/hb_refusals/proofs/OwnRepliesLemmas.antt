@@ -3,7 +3,7 @@ use Rattle.std.proofs.Common.{◌≡◌, ℕ, ◌+◌, Bool, true, false, List, 
 use Rattle.std.specs.Prelude.{◌&&◌, ◌==◌, bytes_eq, is_none, if◌then◌else◌, option_map}
 use Rattle.std.specs.Option.{option_or}
 use Rattle.hb_club.specs.declared.commands.Command.{Command}
-use Rattle.hb_club.specs.KeptReplies.{OwnEntry, is_kept, kept_entry}
+use Rattle.hb_club.specs.OwnEntries.{OwnEntry, is_kept, kept_entry}
 use Rattle.hb_club.specs.TableRefusals.{kept_reply}
 use Rattle.hb_refusals.specs.declared.kept_replies.KeptReplies.{KeptReplies}
 use Rattle.hb_refusals.specs.declared.kept_replies.KeptReply.{KeptReply}
