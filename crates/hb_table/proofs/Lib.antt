@@ -13,6 +13,7 @@ mod AddLemmas
 mod SoundLemmas
 mod TimedLemmas
 mod StepLemmas
+mod FewSeatsLemmas
 mod AcceptLemmas
 mod RoomOpenLemmas
 mod ClerkLemmas

@@ -7,7 +7,7 @@ use Rattle.std.proofs.lemmas.Bool.{and_parts, or_parts}
 use Rattle.std.proofs.lemmas.List.{append-nil}
 use Rattle.hb_rules.specs.declared.acts.Action.{Action}
 use Rattle.hb_rules.specs.declared.acts.Rule.{Rule}
-use Rattle.hb_rules.specs.declared.limits.TheConstants.{FEWEST_PLAYERS}
+use Rattle.hb_rules.specs.declared.limits.TheConstants.{FEWEST_PLAYERS, MOST_PLAYERS}
 use Rattle.hb_rules.specs.declared.setups.Setup.{Setup}
 use Rattle.hb_rules.specs.Setup.{Position}
 use Rattle.hb_review.specs.declared.error.ReviewError.{ReviewError}
@@ -416,6 +416,10 @@ taken-started a e none plays = not-false (is_some a.names) (rw plays at (verdict
 pub taken-gathering : (a : Room) (e : Entry) → verdict_in a e ≡ None → is_for_gathering e.command ≡ true
     → (is_some a.names ≡ false) × (is_some a.loaded ≡ false)
 taken-gathering a e none gathers = or_parts _ _ (rw gathers at (verdict-none a e none).gathering)
+
+-- who sits does so where a seat is free
+pub taken-free : (a : Room) (e : Entry) → verdict_in a e ≡ None → e.command ≡ command.Sit → (length a.seats.items == MOST_PLAYERS) ≡ false
+taken-free a e none is = rw is at (verdict-none a e none).full
 
 -- who starts or loads does so where no load is pending
 pub taken-not-loading : (a : Room) (e : Entry) → verdict_in a e ≡ None → is_for_beginning e.command ≡ true → is_some a.load ≡ false

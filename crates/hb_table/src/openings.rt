@@ -137,7 +137,7 @@ impl Room {
         match &e.command {
             Command::Open { name, options } => self.open_as(e, name, options, command),
             // No other command opens a table.
-            _ => Err(AllocError),
+            _ => unreachable!(),
         }
     }
 }

@@ -1,6 +1,7 @@
 //! What is a room? The facts of its latest table, each as it stands after all events so far.
 
-ghost use Rattle.std.specs.Prelude.{◌≡◌, ◌<◌, ◌^◌, IfOk};
+ghost use Rattle.std.specs.Prelude.{◌≡◌, ◌<◌, ◌≤◌, ◌^◌, IfOk, length};
+ghost use Rattle.hb_rules.specs.declared.limits.TheConstants.{MOST_PLAYERS};
 
 use hb_club::{Item, PLACES, Shoe};
 use hb_deck::Deck;
@@ -58,6 +59,7 @@ pub struct Room {
     /// The review of the loaded game, or of the started one once it has ended.
     pub(crate) review: Option<GameReview>,
     ghost run_in_range: { run < 2 ^ 63 },
+    ghost few_seats: { length seats.items ≤ MOST_PLAYERS },
 }
 
 /// A copy of a shoe.

@@ -6,7 +6,7 @@ ghost use Rattle.hb_table.specs.Starts.{timer_when};
 
 use crate::lists::put;
 use crate::room::Room;
-use hb_club::{Command, Entry, Item, PLACES, Reply};
+use hb_club::{Command, Entry, Item, Reply};
 use hb_playing::{DealError, by_seat, deal, started, timer_for};
 use hb_timer::{MOMENT_LIMIT, Timer};
 use hb_turns::Game;
@@ -27,7 +27,7 @@ impl Room {
     ghost use Rattle.std.specs.Prelude.{◌≡◌, ◌≤◌, ℕ, false, length, min, IfOk, OnErr, OnOk};
     ghost use Rattle.hb_club.specs.declared.commands.Command.TheVariants as commands;
     ghost use Rattle.hb_club.specs.NewItems.{by_seat};
-    ghost use Rattle.hb_rules.specs.declared.limits.TheConstants.{MOST_PLAYERS};
+    ghost use Rattle.hb_rules.specs.declared.limits.TheConstants.{FEWEST_PLAYERS};
     ghost use Rattle.hb_table.specs.Changes.{HasRoom, SameFacts, StartsGame};
     ghost use Rattle.hb_table.specs.HeadMoves.{MovesHead};
     ghost use Rattle.hb_table.specs.Keeps.{site_in};
@@ -36,7 +36,11 @@ impl Room {
 
     /// The game of those who are seated. There is none if the name that the table was opened with
     /// is no variant's.
+    ///
+    /// The error comes if memory is refused, or if no game of so many may start with the options
+    /// that the table was opened with.
     fn deal_game(&self) -> Result<Option<Game>, AllocError>
+        requires two { FEWEST_PLAYERS ≤ length self.now.seats.items }
         ensures { IfOk result (IsDealtFor self.now) }
     {
         let seats = self.seats.len();
@@ -51,7 +55,8 @@ impl Room {
         ) {
             Ok(game) => Ok(Some(game)),
             Err(DealError::Variant) => Ok(None),
-            Err(_) => Err(AllocError),
+            Err(DealError::Players) => unreachable!(),
+            Err(DealError::Options | DealError::NoMemory) => Err(AllocError),
         }
     }
 
@@ -59,7 +64,6 @@ impl Room {
     fn start_with(&mut self, moment: u64, game: Option<Game>)
         requires room { HasRoom self.old }
         requires range { moment ≤ MOMENT_LIMIT }
-        requires few { length self.old.seats.items ≤ MOST_PLAYERS }
         ensures { StartsGame moment (by_seat self.old.seats.items) game (timer_when moment game)
             self.old self.new }
     {
@@ -83,9 +87,6 @@ impl Room {
         ensures err { OnErr result (self.new ≡ self.old) }
     {
         let game = self.deal_game()?;
-        if self.seats.len() > PLACES {
-            return Err(AllocError);
-        }
         let moment = self.stamp_for(e.moment).min(MOMENT_LIMIT);
         self.start_with(moment, game);
         self.keep_entry(e, command, Reply::Done);
