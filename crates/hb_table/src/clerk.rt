@@ -189,7 +189,7 @@ impl Room {
         ensures err { OnErr result (SameFacts self.old self.new) }
     {
         if !self.is_waiting(table, id) {
-            return self.pass_over(moment);
+            return self.note_unasked(moment);
         }
         let game = read_kept(self.alloc, text)?;
         self.reserve()?;
@@ -198,7 +198,7 @@ impl Room {
     }
 
     /// Takes a note of a game for which the table does not ask.
-    fn pass_over(&mut self, moment: u64) -> Result<Noted, AllocError>
+    fn note_unasked(&mut self, moment: u64) -> Result<Noted, AllocError>
         ensures ok { IfOk result (λ noted. (table id : ℕ) (game : Option Finished)
             → is_pending self.old.latest table id self.old.load ≡ false
             → BringsWhole (Notes moment (Loaded table id game))

@@ -54,9 +54,10 @@ fn kept_options(options: &Options) -> Options
     if options.timed {
         *options
     } else {
+        let default = Options::default();
         Options {
-            base_s: 120,
-            per_turn_s: 20,
+            base_s: default.base_s,
+            per_turn_s: default.per_turn_s,
             ..*options
         }
     }

@@ -12,10 +12,10 @@ use Rattle.hb_table.proofs.room.Room.note_loaded.Goals as goal
 
 pub returns-then-not-is_waiting-clause-ok : goal.returns-then-not-is_waiting-clause-ok
 returns-then-not-is_waiting-clause-ok c =
-    if-ok c.pass_over.result (λ noted is. is c.args.table c.args.id (read_text c.args.text.now)
+    if-ok c.note_unasked.result (λ noted is. is c.args.table c.args.id (read_text c.args.text.now)
     (sym c.is_waiting.ensures ∙ c.if-not-is_waiting.true) (note_event-whole c.args.moment (note.Loaded c.args.table c.args.id
     c.args.text.now)))
-    c.pass_over.ensures.ok
+    c.note_unasked.ensures.ok
 
 pub returns-clause-ok : goal.returns-clause-ok
 returns-clause-ok c =

@@ -4,7 +4,7 @@ use Rattle.hb_club.specs.RoomEvents.{Loaded, Notes}
 use Rattle.hb_table.specs.Changes.{due_in}
 use Rattle.hb_table.proofs.ClerkLemmas.{loads-nothing}
 use Rattle.hb_table.proofs.TimedLemmas.{out-stays, timed-at}
-use Rattle.hb_table.proofs.room.Room.pass_over.Goals as goal
+use Rattle.hb_table.proofs.room.Room.note_unasked.Goals as goal
 
 pub returns-clause-ok : goal.returns-clause-ok
 returns-clause-ok c = λ table id game none whole.
