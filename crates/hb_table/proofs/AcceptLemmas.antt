@@ -26,6 +26,7 @@ use Rattle.hb_club.proofs.PlainItemsLemmas.{is_plain}
 use Rattle.hb_playing.specs.Games.{ended_by, game_after, rule_by}
 use Rattle.hb_playing.specs.RoomReviews.{reviewed_by, steps_by, walk_of}
 use Rattle.hb_playing.specs.Seats.{seat_in}
+use Rattle.hb_playing.proofs.ReviewsLemmas.{step_of-walk}
 use Rattle.hb_table.specs.declared.room.Room.{Room}
 use Rattle.hb_table.specs.State.{State, host_load}
 use Rattle.hb_table.specs.StateMoves.{timed_state}
@@ -42,11 +43,6 @@ use Rattle.hb_table.proofs.TimedLemmas.{no-history}
 use Rattle.hb_table.proofs.VerdictLemmas.{verdict-none, taken-gathering, taken-lawful, taken-no-open, taken-pause, taken-resume, taken-running, taken-started}
 
 -- the review of the room is that of the table
-
-step_of-walk : (game : Option Position) (all : List Step) (c : Command)
-    → step_of (reviewed_by (walk_of game all)) (steps_by (walk_of game all)) c ≡ step_of game all c
-step_of-walk None all c = refl
-step_of-walk (Some game) all c = refl
 
 -- the step that a command takes is the table's
 pub step-is : (x : State) (c : Room) (cmd : Command) → Keeps x c

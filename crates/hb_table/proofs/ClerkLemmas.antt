@@ -1,5 +1,5 @@
 -- For which list does a room stand after a call of the clerk?
-use Rattle.std.proofs.Common.{◌≡◌, ℕ, ◌≤◌, Bool, true, false, List, [], ◌∷◌, ◌++◌, refl, ap, arith, sym, subst, ◌∙◌, max, Some, None, Option}
+use Rattle.std.proofs.Common.{◌≡◌, ℕ, ◌≤◌, Bool, true, false, List, [], ◌∷◌, ◌++◌, refl, ap, arith, sym, subst, ◌∙◌, Some, None, Option}
 use Rattle.std.specs.Prelude.{◌&&◌, ◌==◌, IsSome, is_some, not, option_map}
 use Rattle.std.specs.Option.{option_to_list}
 use Rattle.std.proofs.lemmas.Bool.{and_parts}
@@ -43,7 +43,7 @@ use Rattle.hb_table.proofs.RoomKeepsLemmas.{noted-keeps}
 use Rattle.hb_table.proofs.PendingStateLemmas.{host_load-item}
 use Rattle.hb_table.proofs.ReviewStepsLemmas.{is_reviewing}
 use Rattle.hb_table.proofs.SoundLemmas.{Sound, not-some, position-started, unstarted-position}
-use Rattle.hb_table.proofs.StepLemmas.{Finds, goes-answers, timed-finds}
+use Rattle.hb_table.proofs.StepLemmas.{Finds, goes-answers, stamp-is, stamp-later, stamp-range, timed-finds}
 use Rattle.hb_table.proofs.TableGamesLemmas.{has_ended-by, history_in-stays, position_in-stays}
 use Rattle.hb_table.proofs.TableMovesLemmas.{steps-stay}
 use Rattle.hb_table.proofs.TimedLemmas.{no-history, timed}
@@ -91,17 +91,6 @@ pending-table latest table id (Some asked) is = same table latest (and_parts _ _
   where
     same : (m n : ℕ) → (m == n) ≡ true → m ≡ n
     same m n is = grind arith
-
--- the stamp of a note
-
-stamp-is : (x : State) (c : Room) (moment : ℕ) → Keeps x c → stamp_for c moment ≡ stamp_in x moment
-stamp-is x c moment k = ap (λ (n : ℕ). max (in_time moment) n) k.stamp
-
-stamp-later : (c : Room) (moment : ℕ) → c.stamp ≤ stamp_for c moment
-stamp-later c moment = omega arith
-
-stamp-range : (x : State) (c : Room) (moment : ℕ) → Keeps x c → stamp_for c moment ≤ MOMENT_LIMIT
-stamp-range x c moment k = omega (arith, k.in_range)
 
 -- the game that ended is kept
 pub saves-game : (c b : Room) (moment table id : ℕ) → is_due_in c table ≡ true → AddsItem (stamp_for c moment) (what.Saved id) c.review c b

@@ -39,13 +39,14 @@ use Rattle.hb_club.specs.TimeFirst.{timeout, timeout_at, timeout_when, with_item
 use Rattle.hb_club.proofs.PlainItemsLemmas.{is_plain}
 use Rattle.hb_club.proofs.TableRefusalsLemmas.{done-no-game, done-by-rules, done-reviewing}
 use Rattle.hb_review.specs.declared.steps.Step.{Step}
+use Rattle.hb_playing.specs.Games.{ended_by}
 use Rattle.hb_table.specs.State.{State, host_load, state_at}
 use Rattle.hb_table.specs.StateMoves.{accepts, item_at, late_items, loaded_table, noted_in, stamp_in, started_table, timed_state}
 use Rattle.hb_table.proofs.ClerkStateLemmas.{state_of-loaded, state_of-noted, state_of-nothing, state_of-todo}
 use Rattle.hb_table.proofs.PendingStateLemmas.{is_started-late}
 use Rattle.hb_table.proofs.StateLemmas.{IsAccepted, is-accepted, state_of-item, state_of-load, state_of-note, state_of-refused, state_of-start}
 use Rattle.hb_table.proofs.TableFactsLemmas.{unstarted-game}
-use Rattle.hb_table.proofs.TableGamesLemmas.{ended_by, has_ended-by, position_in-stays}
+use Rattle.hb_table.proofs.TableGamesLemmas.{has_ended-by, position_in-stays}
 use Rattle.hb_table.proofs.TableMovesLemmas.{steps-stay}
 
 -- a game has ended at the table, or was loaded

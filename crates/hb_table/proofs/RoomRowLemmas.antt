@@ -1,8 +1,7 @@
 -- What does it say of an entry that no row of the table of refusals holds, and what does a row say that holds?
-use Rattle.std.proofs.Common.{◌≡◌, ℕ, Bool, true, false, List, [], ◌∷◌, ◌++◌, refl, ◌∙◌, Some, None, Option, drop}
+use Rattle.std.proofs.Common.{◌≡◌, ℕ, Bool, true, false, List, [], ◌∷◌, ◌++◌, refl, Some, None, Option, drop}
 use Rattle.std.specs.Prelude.{◌&&◌, ◌||◌, ◌==◌, not, nat_le, nat_lt, is_some}
 use Rattle.std.specs.List.{list_all}
-use Rattle.std.proofs.lemmas.List.Folds.{list_all-append}
 use Rattle.hb_rules.specs.declared.acts.Rule.{Rule}
 use Rattle.hb_rules.specs.declared.limits.TheConstants.{FEWEST_PLAYERS, MOST_PLAYERS}
 use Rattle.hb_review.specs.declared.error.ReviewError.{ReviewError}
@@ -15,6 +14,7 @@ use Rattle.hb_club.specs.declared.replies.Reply.TheVariants.{Done, Refused}
 use Rattle.hb_club.specs.CommandKinds.{asked_shadow, is_act, is_close, is_for_beginning, is_for_game, is_for_gathering, is_for_host, is_open, is_pause, is_resume, is_review_step, is_sit, is_start}
 use Rattle.hb_club.specs.OwnEntries.{is_done}
 use Rattle.hb_club.specs.TableRefusals.{first_reply, for_some, number_limit, when}
+use Rattle.hb_club.proofs.TableRefusalsLemmas.{one-more, refuse-append, refuses, refuses-for_some, refuses-when}
 use Rattle.hb_refusals.specs.declared.facts.Facts.{Facts}
 use Rattle.hb_refusals.specs.FactRows.{end_rows_on, game_rows_on, opens_next_to, rows_on, seat_rows_on, serial_rows_on, start_rows_on}
 
@@ -104,27 +104,6 @@ rows_on-none x kept count broken review e none =
       reviewed = for_some-none refusal.Review review t25.0;
     }
 
--- a row that refuses if it holds
-abbrev refuses : Option Reply → Bool
-refuses None = true
-refuses (Some Done) = false
-refuses (Some (Refused why)) = true
-
-refuses-when : (b : Bool) (why : Refusal) → refuses (when b why) ≡ true
-refuses-when true why = refl
-refuses-when false why = refl
-
-refuses-some : {A : Type 0} (cause : A → Refusal) (o : Option A) → refuses (for_some cause o) ≡ true
-refuses-some cause None = refl
-refuses-some cause (Some x) = refl
-
-one-more : (row : Option Reply) (rows : List (Option Reply)) → refuses row ≡ true → list_all refuses rows ≡ true
-    → list_all refuses (row ∷ rows) ≡ true
-one-more row rows h rest = rw (h, rest) refl
-
-refuse-append : (xs ys : List (Option Reply)) → list_all refuses xs ≡ true → list_all refuses ys ≡ true → list_all refuses (xs ++ ys) ≡ true
-refuse-append xs ys a b = list_all-append refuses xs ys ∙ rw (a, b) refl
-
 -- of rows that refuse, the first that holds is no Done
 first-refuses : (rows : List (Option Reply)) (reply : Reply) → list_all refuses rows ≡ true → first_reply rows ≡ Some reply
     → is_done reply ≡ false
@@ -171,10 +150,10 @@ game-refuse x broken review c =
     one-more _ (drop 1 (game_rows_on x broken review c)) (refuses-when _ _)
     (one-more _ (drop 2 (game_rows_on x broken review c)) (refuses-when _ _)
     (one-more _ (drop 3 (game_rows_on x broken review c)) (refuses-when _ _)
-    (one-more _ (drop 4 (game_rows_on x broken review c)) (refuses-some refusal.Rule broken)
+    (one-more _ (drop 4 (game_rows_on x broken review c)) (refuses-for_some refusal.Rule broken)
     (one-more _ (drop 5 (game_rows_on x broken review c)) (refuses-when _ _)
     (one-more _ (drop 6 (game_rows_on x broken review c)) (refuses-when _ _)
-    (one-more _ [] (refuses-some refusal.Review review) refl))))))
+    (one-more _ [] (refuses-for_some refusal.Review review) refl))))))
 
 -- so a row that holds, where nothing is kept for the number, refuses
 pub rows_on-refuse : (x : Facts) (count : ℕ) (broken : Option Rule) (review : Option ReviewError) (e : Entry) (reply : Reply)

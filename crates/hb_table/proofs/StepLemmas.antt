@@ -141,13 +141,13 @@ refused-steps a c b e reply look time some keeps = goes-answers a b (Call e) (Re
 
 -- the stamp of an accepted command
 
-stamp-is : (x : State) (c : Room) (moment : ℕ) → Keeps x c → stamp_for c moment ≡ stamp_in x moment
+pub stamp-is : (x : State) (c : Room) (moment : ℕ) → Keeps x c → stamp_for c moment ≡ stamp_in x moment
 stamp-is x c moment k = ap (λ (n : ℕ). max (in_time moment) n) k.stamp
 
-stamp-later : (c : Room) (moment : ℕ) → c.stamp ≤ stamp_for c moment
+pub stamp-later : (c : Room) (moment : ℕ) → c.stamp ≤ stamp_for c moment
 stamp-later c moment = omega arith
 
-stamp-range : (x : State) (c : Room) (moment : ℕ) → Keeps x c → stamp_for c moment ≤ MOMENT_LIMIT
+pub stamp-range : (x : State) (c : Room) (moment : ℕ) → Keeps x c → stamp_for c moment ≤ MOMENT_LIMIT
 stamp-range x c moment k = omega (arith, k.in_range)
 
 stamp-timely : (x : State) (c : Room) (moment : ℕ) → Keeps x c → IsTimely (in_time moment) c.timer → IsTimely (stamp_for c moment) c.timer

@@ -1,16 +1,15 @@
 -- How do the game, the clock and the review of a table move by one more item, and what is read of them?
-use Rattle.std.proofs.Common.{◌≡◌, ℕ, Bool, true, false, List, [], ◌∷◌, refl, ap, sym, ◌∙◌, length, Some, None, Option}
-use Rattle.std.specs.Prelude.{◌&&◌, is_some, not, option_map, if◌then◌else◌}
+use Rattle.std.proofs.Common.{◌≡◌, ℕ, Bool, true, false, List, [], ◌∷◌, refl, ap, sym, ◌∙◌, Some, None, Option}
+use Rattle.std.specs.Prelude.{is_some, option_map, if◌then◌else◌}
 use Rattle.hb_rules.specs.declared.acts.Act.{Act}
 use Rattle.hb_rules.specs.declared.acts.Action.{Action}
 use Rattle.hb_rules.specs.declared.acts.Options.{Options}
-use Rattle.hb_rules.specs.declared.acts.Rule.{Rule}
 use Rattle.hb_rules.specs.declared.setups.Setup.{Setup}
-use Rattle.hb_rules.specs.Positions.{after, ended, rule}
-use Rattle.hb_rules.specs.Setup.{Position, by}
+use Rattle.hb_rules.specs.Positions.{after, ended}
+use Rattle.hb_rules.specs.Setup.{Position}
 use Rattle.hb_timer.specs.declared.timing.TimerCall.{TimerCall}
 use Rattle.hb_timer.specs.declared.timing.TimerCall.TheVariants.{TurnEnds, Pauses, Resumes, Stops}
-use Rattle.hb_timer.specs.Banks.{deadline, is_running, is_stopped, turn_seat}
+use Rattle.hb_timer.specs.Banks.{deadline, turn_seat}
 use Rattle.hb_timer.specs.Timer.{History}
 use Rattle.hb_club.specs.declared.items.Item.{Item}
 use Rattle.hb_club.specs.declared.items.What.{What}
@@ -24,37 +23,13 @@ use Rattle.hb_club.specs.TableItems.{act_in, acts, is_saved, is_standing, names_
 use Rattle.hb_club.specs.TableRefusals.{act_rule}
 use Rattle.hb_club.specs.TableReview.{game_when, played_game, reviewed_game}
 use Rattle.hb_club.specs.TimeFirst.{timeout, timeout_at, with_items}
+use Rattle.hb_playing.specs.Games.{cards_by, ended_by, players_by, rule_by}
+use Rattle.hb_playing.specs.RoomClocks.{paused_by}
 use Rattle.hb_table.specs.State.{history_in, position_in, reviewed_by}
 use Rattle.hb_table.specs.StateMoves.{item_at, loaded_table, new_table, started_table}
 use Rattle.hb_table.proofs.TableMovesLemmas.{acts-stay}
 
 -- what refusals read, by the game and the clock
-
--- it has ended
-abbrev pub ended_by : Option Position → Bool
-ended_by None = false
-ended_by (Some p) = is_some (ended p)
-
--- it stands still, and can run again
-abbrev pub paused_by : Option History → Bool
-paused_by None = false
-paused_by (Some t) = not (is_running t.calls) && not (is_stopped t.calls)
-
--- the first rule that an action of a seat breaks
-abbrev pub rule_by : Option Position → ℕ → Option Action → Option Rule
-rule_by (Some p) seat (Some a) = rule p (by seat a)
-rule_by (Some p) seat None = None
-rule_by None seat a = None
-
--- the number of its cards
-abbrev pub cards_by : Option Position → ℕ
-cards_by None = 0
-cards_by (Some p) = length p.setup.deck.items
-
--- the number of its players
-abbrev pub players_by : Option Position → ℕ
-players_by None = 0
-players_by (Some p) = p.setup.players
 
 -- that it has ended
 pub has_ended-by : (t : Table) → has_ended t ≡ ended_by (position_in t)

@@ -8,10 +8,7 @@ use Rattle.std.proofs.lemmas.List.{append-nil}
 use Rattle.hb_rules.specs.declared.acts.Action.{Action}
 use Rattle.hb_rules.specs.declared.acts.Rule.{Rule}
 use Rattle.hb_rules.specs.declared.limits.TheConstants.{FEWEST_PLAYERS, MOST_PLAYERS}
-use Rattle.hb_rules.specs.declared.setups.Setup.{Setup}
-use Rattle.hb_rules.specs.Setup.{Position}
 use Rattle.hb_review.specs.declared.error.ReviewError.{ReviewError}
-use Rattle.hb_review.specs.declared.steps.Step.{Step}
 use Rattle.hb_club.specs.declared.commands.Command.{Command}
 use Rattle.hb_club.specs.declared.commands.Command.TheVariants as command
 use Rattle.hb_club.specs.declared.commands.Entry.{Entry}
@@ -22,7 +19,7 @@ use Rattle.hb_club.specs.declared.replies.Reply.TheVariants.{Done, Refused}
 use Rattle.hb_club.specs.CommandKinds.{asked_action, is_for_beginning, is_for_game, is_for_gathering, is_for_host, is_long_note, is_look, is_open, is_pressing, is_start}
 use Rattle.hb_club.specs.OwnEntries.{OwnEntry, is_done, is_unkept, kept_count, kept_entry, pending_id}
 use Rattle.hb_club.specs.Seating.{Watcher, shadow_of, watchers}
-use Rattle.hb_club.specs.Table.{Table, deck_size, has_ended, is_paused, player_count, seat_of}
+use Rattle.hb_club.specs.Table.{Table, seat_of}
 use Rattle.hb_club.specs.TableItems.{acts, all_of, first_of_all, host, host_in, is_host, is_standing, steps}
 use Rattle.hb_club.specs.TableRefusals.{act_rule, end_rows, first_reply, game_rows, kept_reply, own_for, seat_rows, serial_rows, start_rows}
 use Rattle.hb_club.specs.TableReview.{reviewed_game, step_refusal}
@@ -36,63 +33,21 @@ use Rattle.hb_refusals.proofs.OptionLemmas.{is_none-not, none-same}
 use Rattle.hb_refusals.proofs.OwnRepliesLemmas.{kept_reply-own}
 use Rattle.hb_refusals.proofs.RowLemmas.{rows_on-loading}
 use Rattle.hb_playing.specs.RoomClocks.{paused_by}
-use Rattle.hb_playing.specs.Games.{cards_by, ended_by, players_by, rule_by}
-use Rattle.hb_playing.specs.RoomReviews.{reviewed_by, steps_by, walk_of}
+use Rattle.hb_playing.specs.Games.{ended_by, rule_by}
+use Rattle.hb_playing.specs.RoomReviews.{reviewed_by, steps_by}
 use Rattle.hb_playing.specs.Seats.{seat_in}
+use Rattle.hb_playing.proofs.ReviewsLemmas.{step_refusal-walk}
 use Rattle.hb_table.specs.declared.room.Room.{Room}
-use Rattle.hb_table.specs.State.{State, history_in, host_load, position_in}
+use Rattle.hb_table.specs.State.{State, host_load}
 use Rattle.hb_table.specs.StateMoves.{accepts, reply_in}
 use Rattle.hb_table.specs.Keeps.{Keeps}
 use Rattle.hb_table.specs.Changes.{keeps_in}
 use Rattle.hb_table.specs.Verdicts.{count_in, facts_in, known_in, opens_in, verdict_in}
 use Rattle.hb_table.proofs.KeptEntriesLemmas.{opens_table, opens_table-taken}
 use Rattle.hb_table.proofs.RoomRowLemmas.{NoRow, rows_on-none, rows_on-refuse}
+use Rattle.hb_table.proofs.TableGamesLemmas.{act_rule-by, deck_size-by, has_ended-by, is_paused-by, player_count-by}
 
--- what the rows read of the game and the clock
-
-ended-is : (t : Table) → has_ended t ≡ ended_by (position_in t)
-ended-is t = pick t.game refl
-  where
-    pick : (g : Option Setup) → t.game ≡ g → has_ended t ≡ ended_by (position_in t)
-    pick None is = rw is refl
-    pick (Some g) is = rw is refl
-
-paused-is : (t : Table) → is_paused t ≡ paused_by (history_in t)
-paused-is t = pick t.options.timed t.game refl refl
-  where
-    pick : (b : Bool) (g : Option Setup) → t.options.timed ≡ b → t.game ≡ g → is_paused t ≡ paused_by (history_in t)
-    pick false g timed is = rw timed refl
-    pick true None timed is = rw (timed, is) refl
-    pick true (Some g) timed is = rw (timed, is) refl
-
-cards-are : (t : Table) → deck_size t.game ≡ cards_by (position_in t)
-cards-are t = pick t.game refl
-  where
-    pick : (g : Option Setup) → t.game ≡ g → deck_size t.game ≡ cards_by (position_in t)
-    pick None is = rw is refl
-    pick (Some g) is = rw is refl
-
-players-are : (t : Table) → player_count t.game ≡ players_by (position_in t)
-players-are t = pick t.game refl
-  where
-    pick : (g : Option Setup) → t.game ≡ g → player_count t.game ≡ players_by (position_in t)
-    pick None is = rw is refl
-    pick (Some g) is = rw is refl
-
-rule-is : (t : Table) (seat : ℕ) (a : Option Action) → act_rule t.game (acts t.items) seat a ≡ rule_by (position_in t) seat a
-rule-is t seat a = pick t.game a refl
-  where
-    pick : (g : Option Setup) (b : Option Action) → t.game ≡ g → act_rule t.game (acts t.items) seat b ≡ rule_by (position_in t) seat b
-    pick None b is = rw is refl
-    pick (Some g) None is = rw is refl
-    pick (Some g) (Some b) is = rw is refl
-
-review-is : (game : Option Position) (steps : List Step) (c : Command)
-    → step_refusal (reviewed_by (walk_of game steps)) (steps_by (walk_of game steps)) c ≡ step_refusal game steps c
-review-is None steps c = refl
-review-is (Some game) steps c = refl
-
--- what they read of the members
+-- what the rows read of the members
 
 watch-any : (m : List ℕ) (all : List Watcher) → list_any (λ (w : Watcher). bytes_eq m w.0) all ≡ is_some (shadow_of m all)
 watch-any m [] = refl
@@ -130,10 +85,10 @@ facts-are x a m k =
       k.game,
       k.timer,
       k.loaded,
-      ended-is x.table,
-      paused-is x.table,
-      cards-are x.table,
-      players-are x.table,
+      has_ended-by x.table,
+      is_paused-by x.table,
+      deck_size-by x.table,
+      player_count-by x.table,
     ) refl
 
 -- the reply of the number is the one that the table of refusals has in the place of the kept reply
@@ -199,10 +154,10 @@ verdict-shown x a e k =
     let seat : seat_in a.names e.member ≡ seat_of t e.member = rw k.names refl in
     let rule : rule_by a.game (seat_in a.names e.member) (asked_action e.command)
     ≡ act_rule t.game (acts t.items) (seat_of t e.member) (asked_action e.command) =
-    rw (k.game, seat) (sym (rule-is t (seat_of t e.member) (asked_action e.command))) in
+    rw (k.game, seat) (sym (act_rule-by t (seat_of t e.member) (asked_action e.command))) in
     let review : step_refusal (reviewed_by a.review) (steps_by a.review) e.command
     ≡ step_refusal (reviewed_game t.loaded t.game t.items) (steps t.items) e.command =
-    rw k.review (review-is (reviewed_game t.loaded t.game t.items) (steps t.items) e.command) in
+    rw k.review (step_refusal-walk (reviewed_game t.loaded t.game t.items) (steps t.items) e.command) in
     ap (λ (f : Facts). first_reply (rows_on f (known_in a e) (count_in a e)
     (rule_by a.game (seat_in a.names e.member) (asked_action e.command)) (step_refusal (reviewed_by a.review) (steps_by a.review)
     e.command) e))
