@@ -52,7 +52,7 @@ act_lines act clock moment v k =
 -- an act that is taken
 pub acted-writes : (a : Answered) (p k : Position) (act : Act) (moment : ℕ) (c : Cursor) (clock : Option Clock) (old new : List (List ℕ))
     → a.game ≡ Some p → IsPlayed p → c.game ≡ Some k
-    → (HasSeat c.viewer → new ≡ old ++ act_lines act clock moment c.viewer k)
+    → (HasSeat c.viewer → p.setup.players ≡ k.setup.players → new ≡ old ++ act_lines act clock moment c.viewer k)
     → ClockMoves (act_call k.setup (act ∷ k.past) moment) c.clock clock
     → Writes a (acted moment act) c (record { viewer = c.viewer; game = Some (after k act); clock = clock; shown = c.shown }) old new
 acted-writes a p k act moment c clock old new game played kept texts moves w more before is shows all so =
@@ -79,7 +79,7 @@ acted-writes a p k act moment c clock old new game played kept texts moves w mor
     let same : (g : Setup) → seen_game w ≡ Some g → h ≡ g = λ (g : Setup) (e : seen_game w ≡ Some g).
     ap (λ (o : Option Setup). unwrap_or o h) (sym ps.seen ∙ e) in
     record {
-      texts = texts seat
+      texts = texts seat (sym (ap (λ (q : Position). q.setup.players) at))
           ∙ (ap (λ (v : Viewer). old ++ act_lines act clock moment v k) so.written.viewer
           ∙ (ap (λ (q : Position). old ++ act_lines act clock moment w.viewer q) at
           ∙ (ap (λ lines. old ++ piece_lines (blind_of w.viewer p.setup.players)

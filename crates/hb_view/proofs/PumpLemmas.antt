@@ -247,13 +247,6 @@ writes-step a w s i before item old mid new c left same step is shows all so wri
 
 -- a kept game in an answered one
 
--- the game of an answer is one that is played by the rules
-pub played-some : (g p : Position) (o : Option Position) → o ≡ Some g → IsPlayed g → o ≡ Some p → IsPlayed p
-played-some g p o is played same = subst IsPlayed (ap (λ (q : Option Position). unwrap_or q g) (sym is ∙ same)) played
-
-pub played-none : (p : Position) (o : Option Position) → o ≡ None → o ≡ Some p → IsPlayed p
-played-none p o none same = absurd (some-none (sym same ∙ none))
-
 -- the first acts of all acts
 first_acts-append : (xs ys : List Act) → first_acts (length ys) (xs ++ ys) ≡ ys
 first_acts-append xs ys =

@@ -79,28 +79,30 @@ pub(crate) fn clock_after(clock: Option<Clock>, call: TimerCall) -> Option<Clock
     }
 }
 
-/// Appends the texts of an act, by which the game goes on, and of how it then stands. It answers
-/// the clock after the act.
+/// Appends the texts of an act, by which the game goes on, and of how it then stands. The game has
+/// so many players. It answers the clock after the act.
 fn push_act(
     out: &mut Texts,
     alloc: Global,
     viewer: Viewer,
+    players: u8,
     game: &mut Game,
     clock: Option<Clock>,
     act: Act,
     moment: u64,
 ) -> Result<Option<Clock>, AllocError>
-    requires { rule game.old act ≡ None }
+    requires legal { rule game.old act ≡ None }
+    requires few { players ≤ MOST_PLAYERS }
     ensures next { OnOk result (game.new ≡ after game.old act) }
     ensures clock { IfOk result (λ new.
         ClockMoves (act_call_of game.old.setup (act ∷ game.old.past) moment) clock new) }
-    ensures texts { HasSeat viewer → IfOk result (λ new. out.new
+    ensures texts { HasSeat viewer → players ≡ game.old.setup.players → IfOk result (λ new. out.new
         ≡ out.old ++ piece_lines (blind_of viewer game.old.setup.players) (after game.old act)
         (clock_texts (clock_if_of game.old.setup.options.timed new)
         game.old.setup.players moment)) }
 {
     let events = next_events(game, act);
-    let blind = blind_for(viewer, game.players());
+    let blind = blind_for(viewer, players);
     push_act_events(out, alloc, blind, events)?;
     let clock = clock_after(clock, act_call(game, moment));
     let shown = clock_if(game.options().timed, clock);
@@ -123,13 +125,14 @@ pub(crate) fn write_acted(
     let Some(whole) = &a.game else {
         return Ok(());
     };
-    let _players = whole.players();
+    let players = whole.players();
     let Some(game) = &mut next.game else {
         return Ok(());
     };
     if game.broken(act.who, act.action).is_some() {
         return Ok(());
     }
-    next.clock = push_act(out, alloc, next.viewer, game, next.clock, act, moment)?;
+    let viewer = next.viewer;
+    next.clock = push_act(out, alloc, viewer, players, game, next.clock, act, moment)?;
     Ok(())
 }

@@ -23,7 +23,7 @@ pub struct Cursor {
 }
 
 /// A copy of a game, if there is one.
-fn same_game(game: &Option<Game>) -> Option<Game>
+pub(crate) fn same_game(game: &Option<Game>) -> Option<Game>
     ensures { result ≡ game.now }
 {
     match game {

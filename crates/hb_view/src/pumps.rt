@@ -1,13 +1,13 @@
 //! Which texts are written of an answer's items?
 
-ghost use Rattle.std.specs.Prelude.{◌≡◌, true, Some, None, OnOk, OnErr};
+ghost use Rattle.std.specs.Prelude.{◌≡◌, true, Some, None, OnOk, OnErr, length};
 ghost use Rattle.hb_rules.specs.Setup.{Position};
 ghost use Rattle.hb_turns.specs.GameInvariant.{IsPlayed};
 ghost use Rattle.hb_view.specs.Pumps.{Pumps};
 ghost use Rattle.hb_view.specs.Writing.{Begins, IsResumed, line_alone, Writes, WritesAll};
 
 use crate::acted::write_acted;
-use crate::cursors::Cursor;
+use crate::cursors::{Cursor, same_game};
 use crate::loaded::write_loaded;
 use crate::paused::{write_paused, write_resumed};
 use crate::reviewed::write_reviewed;
@@ -118,39 +118,35 @@ fn same_cards(a: &[Identity], b: &[Identity]) -> bool
     true
 }
 
-/// The answered game after as many acts as a kept one has. If the cards are the same, that is the
-/// kept one. No view tells that they are, since a viewer does not see the whole deck.
-fn resumed_game(kept: &Game, game: &Game) -> Game
+/// The answered game, which has so many acts, after as many as a kept one has. If the cards are the
+/// same, that is the kept one. No view tells that they are, since a viewer does not see the whole
+/// deck.
+fn resumed_game(kept: &Game, game: &Game, acts: usize) -> Game
+    requires { acts ≡ length game.now.past }
     ensures { Begins kept.now game.now
         → result ≡ record { setup = game.now.setup; past = kept.now.past } }
 {
     let count = kept.act_count();
-    if same_cards(kept.deck(), game.deck()) || count > game.act_count() {
+    if same_cards(kept.deck(), game.deck()) || count > acts {
         kept.same()
     } else {
         game.prefix(count)
     }
 }
 
-/// The game of an answer after as many acts as a kept one has, if there is a kept one.
+/// The game of an answer after as many acts as a kept one has, if there is a kept one. The game of
+/// an answer is played by the rules.
 fn resumed(kept: &Option<Game>, answered: &Option<Game>) -> Option<Game>
-    ensures { IsResumed kept.now answered.now result }
+    ensures is { IsResumed kept.now answered.now result }
+    ensures played { (p : Position) → answered.now ≡ Some p → IsPlayed p }
 {
-    let Some(kept) = kept else {
-        return None;
+    let Some(game) = answered else {
+        return same_game(kept);
     };
-    match answered {
-        Some(game) => Some(resumed_game(kept, game)),
-        None => Some(kept.same()),
-    }
-}
-
-/// The game of an answer is one that is played by the rules.
-fn played_game(answered: &Option<Game>)
-    ensures { (p : Position) → answered.now ≡ Some p → IsPlayed p }
-{
-    if let Some(game) = answered {
-        let _players = game.players();
+    let acts = game.act_count();
+    match kept {
+        Some(kept) => Some(resumed_game(kept, game, acts)),
+        None => None,
     }
 }
 
@@ -170,7 +166,6 @@ pub fn pump(
     ensures cursor { OnErr result (cursor.new ≡ cursor.old) }
     ensures out { OnErr result (out.new ≡ out.old) }
 {
-    played_game(&answered.game);
     let mut next = cursor.same();
     next.game = resumed(&next.game, &answered.game);
     let mut texts = Texts::new(alloc);

@@ -34,11 +34,12 @@ fn shown_or_whole(whole: &Game, shown: &Option<Game>) -> Game
     }
 }
 
-/// The game of the first acts, if it has so many.
-fn first_acts(game: &Game, count: usize) -> Game
+/// The game, which has so many acts, after the first of them, if there are so many.
+fn first_acts(game: &Game, acts: usize, count: usize) -> Game
+    requires { acts ≡ length game.now.past }
     ensures { count ≤ length game.now.past → result ≡ prefix game.now count }
 {
-    if count <= game.act_count() {
+    if count <= acts {
         game.prefix(count)
     } else {
         game.same()
@@ -56,8 +57,9 @@ fn tried(game: &Game, action: Action) -> Game
     next
 }
 
-/// The reviewed game after a step.
-fn stepped(whole: &Game, shown: &Option<Game>, step: Step) -> Game
+/// The reviewed game, which has so many acts, after a step.
+fn stepped(whole: &Game, acts: usize, shown: &Option<Game>, step: Step) -> Game
+    requires { acts ≡ length whole.now.past }
     ensures { (taken : List Taken) → shown.now ≡ shown_game whole.now taken
         → AreSteps whole.now (step ∷ taken) → result ≡ reviewed whole.now (step ∷ taken) }
 {
@@ -66,9 +68,10 @@ fn stepped(whole: &Game, shown: &Option<Game>, step: Step) -> Game
         Some(action) => tried(&before, action),
         None => {
             if step.hypos == 0 {
-                first_acts(whole, usize::from(step.turn))
+                first_acts(whole, acts, usize::from(step.turn))
             } else {
-                first_acts(&before, usize::from(step.turn) + usize::from(step.hypos))
+                let count = usize::from(step.turn) + usize::from(step.hypos);
+                first_acts(&before, before.act_count(), count)
             }
         }
     }
@@ -96,11 +99,11 @@ pub(crate) fn write_reviewed(
     let Some(whole) = &a.game else {
         return Ok(());
     };
-    let _players = whole.players();
+    let acts = whole.act_count();
     if whole.ended().is_none() {
         return Ok(());
     }
-    let shown = stepped(whole, &next.shown, step);
+    let shown = stepped(whole, acts, &next.shown, step);
     push_standing(out, alloc, Blind::none(), &shown, None, 0)?;
     next.shown = Some(shown);
     Ok(())

@@ -25,4 +25,4 @@ pub returns : goal.returns
 returns c = rw c.in_ok-next.ensures.next
     (acted-writes c.args.a.now c.in-Some.whole c.in-Some-game.game c.args.act c.args.moment c.args.next.now c.in_ok-next.field-0
     c.args.out.now c.push_act.new.out c.in-Some.is c.players-players.ensures.played c.in-Some-game.is
-    c.in_ok-next.ensures.texts c.in_ok-next.ensures.clock)
+    (λ seat same. c.in_ok-next.ensures.texts seat (c.players-players.ensures.players ∙ same)) c.in_ok-next.ensures.clock)

@@ -12,12 +12,12 @@ pub returns-then-is_none : goal.returns-then-is_none
 returns-then-is_none c =
     let runs : is_some (ended c.in-Some.whole) ≡ false = grind (arith, c.ended.ensures, c.is_none.ensures, c.if-is_none.true) in
     reviewed-nowhere c.args.a.now c.args.step.turn c.args.step.hypos c.args.step.action c.args.next.now c.args.out.now c.push_line.new.out
-    (λ w is shows. view_review-runs c.args.a.now w c.in-Some.whole is shows c.in-Some.is c.players-players.ensures.played runs)
+    (λ w is shows. view_review-runs c.args.a.now w c.in-Some.whole is shows c.in-Some.is c.act_count-acts.ensures.played runs)
     c.in_ok-push_line.ensures
 
 pub returns : goal.returns
 returns c =
     let over : is_some (ended c.in-Some.whole) ≡ true = grind (arith, c.ended.ensures, c.is_none.ensures, c.if-is_none.false) in
     reviewed-writes c.args.a.now c.in-Some.whole c.stepped-shown.result c.args.step.turn c.args.step.hypos c.args.step.action
-    c.args.next.now c.args.out.now c.push_standing.new.out c.in-Some.is c.players-players.ensures.played over c.stepped-shown.ensures
+    c.args.next.now c.args.out.now c.push_standing.new.out c.in-Some.is c.act_count-acts.ensures.played over c.stepped-shown.ensures
     (rw (c.in_ok-push_line.ensures, c.none.ensures.bits) at c.in_ok-push_standing.ensures)
