@@ -1,5 +1,5 @@
 -- A script behind its first lines.
-use Rattle.std.proofs.Common.{◌≡◌, ℕ, ◌+◌, ◌-◌, ◌≤◌, List, [], ◌∷◌, suc, add-one, arith, refl, sym, ap, ◌∙◌, subst, length, drop, take, Result, Ok, Err, true, false, is_some}
+use Rattle.std.proofs.Common.{◌≡◌, ℕ, ◌+◌, List, [], ◌∷◌, suc, add-one, refl, sym, ap, ◌∙◌, drop, take, Result, Err, is_some}
 use Rattle.std.proofs.lemmas.Bool.{true≢false}
 use Rattle.hb_script.specs.declared.scripts.Script.{Script}
 use Rattle.hb_script.specs.declared.scripts.ScriptError.{ScriptError}
@@ -7,36 +7,46 @@ use Rattle.hb_script.specs.declared.scripts.ScriptError.TheVariants.{Line, NoMem
 use Rattle.std.specs.declared.option.Option.{Option}
 use Rattle.std.specs.declared.option.Option.TheVariants.{Some, None}
 use Rattle.hb_rules.specs.declared.suits.Identity.{Identity}
-use Rattle.hb_script.specs.ScriptGrammar.{IsUnread, behind_deck, behind_seed, deck_of, read_lines, script_in, script_of, script_with, seed_of}
+use Rattle.hb_script.specs.ScriptGrammar.{IsUnread, behind_deck, behind_seed, deck_of, read_lines, script_of, script_with, seed_of}
 use Rattle.hb_script.specs.ScriptLines.{lines_of}
 use Rattle.hb_script.specs.ScriptReading.{IsUnreadAs, IsUnreadFrom, feed_at}
 use Rattle.hb_script.proofs.BytePlaces.{lines-cut}
 
-pub script-first : (text : List ℕ) → script_of text ≡ behind_seed (seed_of (take (feed_at text) text)) (lines_of (drop (suc (feed_at text)) text))
+pub script-first : (text : List ℕ)
+    → script_of text ≡ behind_seed (seed_of (take (feed_at text) text)) (lines_of (drop (suc (feed_at text)) text))
 unfolding script_of
 script-first [] = refl
 script-first (b ∷ text) = let cut = lines-cut b text in rw cut refl
 
-pub behind-none : (seed rest : List ℕ) → None ≡ deck_of (take (feed_at rest) rest) → behind_seed (Some seed) (lines_of rest) ≡ script_with seed None (read_lines 2 (lines_of rest))
+pub behind-none : (seed rest : List ℕ) → None ≡ deck_of (take (feed_at rest) rest)
+    → behind_seed (Some seed) (lines_of rest) ≡ script_with seed None (read_lines 2 (lines_of rest))
 behind-none seed [] d = refl
-behind-none seed (b ∷ rest) d = let cut = lines-cut b rest in let e = sym d in rw cut (ap (λ (o : Option (List Identity)). behind_deck seed o (take (feed_at (b ∷ rest)) (b ∷ rest)) (lines_of (drop (suc (feed_at (b ∷ rest))) (b ∷ rest)))) e)
+behind-none seed (b ∷ rest) d = let cut = lines-cut b rest in let e = sym d in
+    rw cut (ap (λ (o : Option (List Identity)). behind_deck seed o (take (feed_at (b ∷ rest)) (b ∷ rest)) (lines_of (drop (suc (feed_at (b
+    ∷ rest))) (b ∷ rest)))) e)
 
 pub behind-some : (seed rest : List ℕ) (cards : List Identity) → Some cards ≡ deck_of (take (feed_at rest) rest)
     → behind_seed (Some seed) (lines_of rest) ≡ script_with seed (Some cards) (read_lines 3 (lines_of (drop (suc (feed_at rest)) rest)))
 behind-some seed [] cards d = absurd (true≢false (ap (λ (o : Option (List Identity)). is_some o) d))
-behind-some seed (b ∷ rest) cards d = let cut = lines-cut b rest in let e = sym d in rw cut (ap (λ (o : Option (List Identity)). behind_deck seed o (take (feed_at (b ∷ rest)) (b ∷ rest)) (lines_of (drop (suc (feed_at (b ∷ rest))) (b ∷ rest)))) e)
+behind-some seed (b ∷ rest) cards d = let cut = lines-cut b rest in let e = sym d in
+    rw cut (ap (λ (o : Option (List Identity)). behind_deck seed o (take (feed_at (b ∷ rest)) (b ∷ rest)) (lines_of (drop (suc (feed_at (b
+    ∷ rest))) (b ∷ rest)))) e)
 
 pub unread : (seed : List ℕ) (written : Option (List Identity)) (first : ℕ) (rest : List ℕ) (reading : Result Script ℕ) (e : ScriptError)
     → reading ≡ script_with seed written (read_lines first (lines_of rest)) → IsUnreadFrom first rest e → IsUnreadAs reading e
 unread seed written first rest reading (Line number) p q = p ∙ ap (script_with seed written) q
 unread seed written first rest reading NoMemory p q = tt
 
-pub unread-all : (text : List ℕ) (reading : Result Script ℕ) (e : ScriptError) → script_of text ≡ reading → IsUnreadAs reading e → IsUnread text e
+pub unread-all : (text : List ℕ) (reading : Result Script ℕ) (e : ScriptError) → script_of text ≡ reading → IsUnreadAs reading e
+    → IsUnread text e
 unread-all text reading (Line number) p q = p ∙ q
 unread-all text reading NoMemory p q = tt
 
 pub script-bad : (end : ℕ) (text : List ℕ) → end ≡ feed_at text → None ≡ seed_of (take end text) → script_of text ≡ Err 1
-script-bad end text e n = script-first text ∙ ap (λ (o : Option (List ℕ)). behind_seed o (lines_of (drop (suc (feed_at text)) text))) (sym (rw e at n))
+script-bad end text e n =
+    script-first text ∙ ap (λ (o : Option (List ℕ)). behind_seed o (lines_of (drop (suc (feed_at text)) text))) (sym (rw e at n))
 
-pub script-good : (end : ℕ) (text seed : List ℕ) → end ≡ feed_at text → Some seed ≡ seed_of (take end text) → script_of text ≡ behind_seed (Some seed) (lines_of (drop (end + 1) text))
-script-good end text seed e n = rw (add-one, e) (script-first text ∙ ap (λ (o : Option (List ℕ)). behind_seed o (lines_of (drop (suc (feed_at text)) text))) (sym (rw e at n)))
+pub script-good : (end : ℕ) (text seed : List ℕ) → end ≡ feed_at text → Some seed ≡ seed_of (take end text)
+    → script_of text ≡ behind_seed (Some seed) (lines_of (drop (end + 1) text))
+script-good end text seed e n = rw (add-one, e) (script-first text
+    ∙ ap (λ (o : Option (List ℕ)). behind_seed o (lines_of (drop (suc (feed_at text)) text))) (sym (rw e at n)))

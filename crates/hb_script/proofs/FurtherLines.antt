@@ -1,5 +1,5 @@
 -- Lines that are read one by one.
-use Rattle.std.proofs.Common.{◌≡◌, ℕ, ◌+◌, ◌-◌, ◌<◌, ◌≤◌, List, [], ◌∷◌, ◌++◌, suc, arith, refl, sym, ap, subst, ◌∙◌, append_assoc, append-nil, length, drop, take, get_or, add-one, length-drop, drop-cons, Result, Ok, Err}
+use Rattle.std.proofs.Common.{◌≡◌, ℕ, ◌+◌, ◌-◌, ◌<◌, List, [], ◌∷◌, ◌++◌, suc, arith, refl, sym, ap, subst, ◌∙◌, append_assoc, append-nil, length, drop, take, length-drop, Result, Ok, Err}
 use Rattle.std.proofs.Math.Seq.{take-length}
 use Rattle.std.proofs.lemmas.List.{drop-drop}
 use Rattle.std.specs.declared.option.Option.{Option}
@@ -16,28 +16,37 @@ lines_here (b ∷ rest) low = lines-cut b rest
 
 -- the first line of a text that is not empty
 pub first-line : (number end : ℕ) (rest : List ℕ) → 0 < length rest → end ≡ feed_at rest
-    → read_lines number (lines_of rest) ≡ with_line number (line_of (take end rest)) (read_lines (number + 1) (lines_of (drop (suc end) rest)))
+    → read_lines number (lines_of rest)
+    ≡ with_line number (line_of (take end rest)) (read_lines (number + 1) (lines_of (drop (suc end) rest)))
 first-line number end rest low e = let cut = lines_here rest low in rw (cut, e) refl
 
-behind_one : (before : List ScriptLine) (said : ScriptLine) (number : ℕ) (r : Result (List ScriptLine) ℕ) → lines_behind before (with_line number (Some said) r) ≡ lines_behind (before ++ said ∷ []) r
-behind_one before said number (Ok lines) = ap (λ (l : List ScriptLine). (let r : Result (List ScriptLine) ℕ = Ok l in r)) (sym (append_assoc before (said ∷ []) lines))
+behind_one : (before : List ScriptLine) (said : ScriptLine) (number : ℕ) (r : Result (List ScriptLine) ℕ)
+    → lines_behind before (with_line number (Some said) r) ≡ lines_behind (before ++ said ∷ []) r
+behind_one before said number (Ok lines) = ap (λ (l : List ScriptLine). (let r : Result (List ScriptLine) ℕ = Ok l in
+    r)) (sym (append_assoc before (said ∷ []) lines))
 behind_one before said number (Err bad) = refl
 
-pub line-more : (first number end : ℕ) (bytes rest : List ℕ) (before : List ScriptLine) (said : ScriptLine) → 0 < length rest → end ≡ feed_at rest
+pub line-more : (first number end : ℕ) (bytes rest : List ℕ) (before : List ScriptLine) (said : ScriptLine) → 0 < length rest
+    → end ≡ feed_at rest
     → read_lines first (lines_of bytes) ≡ lines_behind before (read_lines number (lines_of rest)) → Some said ≡ line_of (take end rest)
     → read_lines first (lines_of bytes) ≡ lines_behind (before ++ said ∷ []) (read_lines (number + 1) (lines_of (drop (suc end) rest)))
 line-more first number end bytes rest before said low e so is =
-    so ∙ ap (lines_behind before) (first-line number end rest low e ∙ ap (λ (l : Option ScriptLine). with_line number l (read_lines (number + 1) (lines_of (drop (suc end) rest)))) (sym is))
+    so ∙ ap (lines_behind before) (first-line number end rest low e
+    ∙ ap (λ (l : Option ScriptLine). with_line number l (read_lines (number + 1) (lines_of (drop (suc end) rest)))) (sym is))
     ∙ behind_one before said number (read_lines (number + 1) (lines_of (drop (suc end) rest)))
 
 pub line-bad : (first number end : ℕ) (bytes rest : List ℕ) (before : List ScriptLine) → 0 < length rest → end ≡ feed_at rest
     → read_lines first (lines_of bytes) ≡ lines_behind before (read_lines number (lines_of rest)) → None ≡ line_of (take end rest)
     → read_lines first (lines_of bytes) ≡ Err number
 line-bad first number end bytes rest before low e so is =
-    so ∙ ap (lines_behind before) (first-line number end rest low e ∙ ap (λ (l : Option ScriptLine). with_line number l (read_lines (number + 1) (lines_of (drop (suc end) rest)))) (sym is))
+    so ∙ ap (lines_behind before) (first-line number end rest low e
+    ∙ ap (λ (l : Option ScriptLine). with_line number l (read_lines (number + 1) (lines_of (drop (suc end) rest)))) (sym is))
 
-pub lines-end : (first number : ℕ) (bytes : List ℕ) (before : List ScriptLine) → read_lines first (lines_of bytes) ≡ lines_behind before (read_lines number (lines_of [])) → read_lines first (lines_of bytes) ≡ Ok before
-lines-end first number bytes before so = so ∙ ap (λ (l : List ScriptLine). (let r : Result (List ScriptLine) ℕ = Ok l in r)) (append-nil before)
+pub lines-end : (first number : ℕ) (bytes : List ℕ) (before : List ScriptLine)
+    → read_lines first (lines_of bytes) ≡ lines_behind before (read_lines number (lines_of []))
+    → read_lines first (lines_of bytes) ≡ Ok before
+lines-end first number bytes before so = so ∙ ap (λ (l : List ScriptLine). (let r : Result (List ScriptLine) ℕ = Ok l in
+    r)) (append-nil before)
 
 -- what stands from a place on, as a slice
 pub tail-is : (at : ℕ) (bytes : List ℕ) → take (length bytes - at) (drop at bytes) ≡ drop at bytes
@@ -47,4 +56,5 @@ pub tail-low : (at : ℕ) (bytes : List ℕ) → at < length bytes → 0 < lengt
 tail-low at bytes low = let d = length-drop at bytes in omega (arith, d, low)
 
 pub tail_after : (at end : ℕ) (bytes : List ℕ) (P : List ℕ → Type 0) → P (drop (suc end) (drop at bytes)) → P (drop (at + (end + 1)) bytes)
-tail_after at end bytes P p = let same : at + (end + 1) ≡ at + suc end = omega arith in subst (λ (n : ℕ). P (drop n bytes)) (sym same) (subst P (drop-drop (suc end) at bytes) p)
+tail_after at end bytes P p = let same : at + (end + 1) ≡ at + suc end = omega arith in
+    subst (λ (n : ℕ). P (drop n bytes)) (sym same) (subst P (drop-drop (suc end) at bytes) p)

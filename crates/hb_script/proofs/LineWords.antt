@@ -1,5 +1,5 @@
 -- What the fields of a line are.
-use Rattle.std.proofs.Common.{◌≡◌, ◌≢◌, ℕ, ◌+◌, ◌-◌, ◌<◌, ◌≤◌, ◌==◌, ◌&&◌, Bool, true, false, nat_le, List, [], ◌∷◌, suc, add-one, arith, length-drop, refl, sym, ap, ◌∙◌, length, drop, take, IsUtf8, bytes_eq, codes, option_map, if◌then◌else◌}
+use Rattle.std.proofs.Common.{◌≡◌, ◌≢◌, ℕ, ◌+◌, ◌-◌, ◌≤◌, ◌==◌, Bool, true, false, List, [], ◌∷◌, suc, add-one, arith, length-drop, refl, sym, ap, ◌∙◌, length, drop, take, IsUtf8, bytes_eq, codes, option_map}
 use Rattle.std.specs.declared.option.Option.{Option}
 use Rattle.std.specs.declared.option.Option.TheVariants.{Some, None}
 use Rattle.std.proofs.lemmas.Grind.{common_steps}
@@ -9,10 +9,9 @@ use Rattle.std.proofs.lemmas.Str.{IsUtf8-from_is_utf8, is_utf8-from_IsUtf8}
 use Rattle.std.specs.Str.{is_utf8}
 use Rattle.hb_io.specs.declared.got.Got.{Got}
 use Rattle.hb_io.specs.declared.got.Got.TheVariants as got
-use Rattle.hb_talk.specs.declared.scripts.ScriptLine.{ScriptLine}
 use Rattle.hb_talk.specs.declared.scripts.ScriptLine.TheVariants as line
 use Rattle.hb_timer.specs.declared.timing.TheConstants.{MOMENT_LIMIT}
-use Rattle.hb_script.specs.ScriptLines.{at_space, conn_of, got_of, line_at, line_in, line_of, moment_of, number_of, said_by, said_in, within}
+use Rattle.hb_script.specs.ScriptLines.{at_space, conn_of, got_of, line_at, line_of, moment_of, number_of, said_by, said_in, within}
 use Rattle.hb_script.specs.ScriptReading.{place_of}
 use Rattle.hb_script.proofs.BytePlaces.{space-cut, space-none}
 
@@ -36,34 +35,47 @@ conn-some (Some m) k e z = grind (arith, common_steps, e, z)
 pub said-no_space : (moment at : ℕ) (rest : List ℕ) → at ≡ place_of 32 rest → at ≡ length rest → None ≡ said_in moment (at_space rest)
 said-no_space moment at rest p q = let e = space-none rest (omega (arith, p, q)) in rw e refl
 
-said-at : (moment at : ℕ) (rest : List ℕ) → at ≡ place_of 32 rest → at ≢ length rest → at ≤ length rest → said_in moment (at_space rest) ≡ said_by moment (conn_of (take at rest)) (drop (suc at) rest)
+said-at : (moment at : ℕ) (rest : List ℕ) → at ≡ place_of 32 rest → at ≢ length rest → at ≤ length rest
+    → said_in moment (at_space rest) ≡ said_by moment (conn_of (take at rest)) (drop (suc at) rest)
 said-at moment at rest p q w = let e = space-cut rest (omega (arith, p, q, w)) in rw (e, p) refl
 
-pub said-no_number : (moment at : ℕ) (rest : List ℕ) → at ≡ place_of 32 rest → at ≢ length rest → at ≤ length rest → None ≡ within 0 256 (number_of (take at rest)) → None ≡ said_in moment (at_space rest)
-said-no_number moment at rest p q w n = let e = said-at moment at rest p q w in let c = conn-none (number_of (take at rest)) n in rw (e, c) refl
+pub said-no_number : (moment at : ℕ) (rest : List ℕ) → at ≡ place_of 32 rest → at ≢ length rest → at ≤ length rest
+    → None ≡ within 0 256 (number_of (take at rest)) → None ≡ said_in moment (at_space rest)
+said-no_number moment at rest p q w n = let e = said-at moment at rest p q w in let c = conn-none (number_of (take at rest)) n in
+    rw (e, c) refl
 
-pub said-zero : (moment at k : ℕ) (rest : List ℕ) → at ≡ place_of 32 rest → at ≢ length rest → at ≤ length rest → Some k ≡ within 0 256 (number_of (take at rest)) → k ≡ 0 → None ≡ said_in moment (at_space rest)
-said-zero moment at k rest p q w n z = let e = said-at moment at rest p q w in let c = conn-zero (number_of (take at rest)) k n z in rw (e, c) refl
+pub said-zero : (moment at k : ℕ) (rest : List ℕ) → at ≡ place_of 32 rest → at ≢ length rest → at ≤ length rest
+    → Some k ≡ within 0 256 (number_of (take at rest)) → k ≡ 0 → None ≡ said_in moment (at_space rest)
+said-zero moment at k rest p q w n z = let e = said-at moment at rest p q w in let c = conn-zero (number_of (take at rest)) k n z in
+    rw (e, c) refl
 
-pub said-got : (moment at k : ℕ) (rest : List ℕ) (given : Option Got) → at ≡ place_of 32 rest → at ≢ length rest → at ≤ length rest → Some k ≡ within 0 256 (number_of (take at rest)) → k ≢ 0
+pub said-got : (moment at k : ℕ) (rest : List ℕ) (given : Option Got) → at ≡ place_of 32 rest → at ≢ length rest → at ≤ length rest
+    → Some k ≡ within 0 256 (number_of (take at rest)) → k ≢ 0
     → given ≡ got_of (drop (suc at) rest) → option_map (line.Says moment k) given ≡ said_in moment (at_space rest)
-said-got moment at k rest given p q w n z g = let e = said-at moment at rest p q w in let c = conn-some (number_of (take at rest)) k n z in rw (e, c) (ap (option_map (line.Says moment k)) g)
+said-got moment at k rest given p q w n z g = let e = said-at moment at rest p q w in
+    let c = conn-some (number_of (take at rest)) k n z in rw (e, c) (ap (option_map (line.Says moment k)) g)
 
 pub line-no_space : (at : ℕ) (text : List ℕ) → at ≡ place_of 32 text → at ≡ length text → None ≡ line_of text
 unfolding line_of
 line-no_space at text p q = let e = space-none text (omega (arith, p, q)) in rw e refl
 
-pub line-on : (at : ℕ) (text : List ℕ) → at ≡ place_of 32 text → at ≢ length text → at ≤ length text → line_of text ≡ line_at (moment_of (take at text)) (drop (suc at) text)
+pub line-on : (at : ℕ) (text : List ℕ) → at ≡ place_of 32 text → at ≢ length text → at ≤ length text
+    → line_of text ≡ line_at (moment_of (take at text)) (drop (suc at) text)
 unfolding line_of
 line-on at text p q w = let e = space-cut text (omega (arith, p, q, w)) in rw (e, p) refl
 
-pub line-no_number : (at : ℕ) (text : List ℕ) → at ≡ place_of 32 text → at ≢ length text → at ≤ length text → None ≡ within 0 MOMENT_LIMIT (number_of (take at text)) → None ≡ line_of text
+pub line-no_number : (at : ℕ) (text : List ℕ) → at ≡ place_of 32 text → at ≢ length text → at ≤ length text
+    → None ≡ within 0 MOMENT_LIMIT (number_of (take at text)) → None ≡ line_of text
 line-no_number at text p q w n = let e = line-on at text p q w in let m : moment_of (take at text) ≡ None = sym n in rw (e, m) refl
 
-pub line-clerk : (at k : ℕ) (text : List ℕ) → at ≡ place_of 32 text → at ≢ length text → at ≤ length text → Some k ≡ within 0 MOMENT_LIMIT (number_of (take at text)) → bytes_eq (drop (suc at) text) (codes "clerk") ≡ true → Some (line.Clerk k) ≡ line_of text
+pub line-clerk : (at k : ℕ) (text : List ℕ) → at ≡ place_of 32 text → at ≢ length text → at ≤ length text
+    → Some k ≡ within 0 MOMENT_LIMIT (number_of (take at text)) → bytes_eq (drop (suc at) text) (codes "clerk") ≡ true
+    → Some (line.Clerk k) ≡ line_of text
 line-clerk at k text p q w n b = let e = line-on at text p q w in let m : moment_of (take at text) ≡ Some k = sym n in rw (e, m, b) refl
 
-pub line-said : (at k : ℕ) (text : List ℕ) → at ≡ place_of 32 text → at ≢ length text → at ≤ length text → Some k ≡ within 0 MOMENT_LIMIT (number_of (take at text)) → bytes_eq (drop (suc at) text) (codes "clerk") ≡ false → said_in k (at_space (drop (suc at) text)) ≡ line_of text
+pub line-said : (at k : ℕ) (text : List ℕ) → at ≡ place_of 32 text → at ≢ length text → at ≤ length text
+    → Some k ≡ within 0 MOMENT_LIMIT (number_of (take at text)) → bytes_eq (drop (suc at) text) (codes "clerk") ≡ false
+    → said_in k (at_space (drop (suc at) text)) ≡ line_of text
 line-said at k text p q w n b = let e = line-on at text p q w in let m : moment_of (take at text) ≡ Some k = sym n in rw (e, m, b) refl
 
 pub got-none : (m : List ℕ) → m ≡ [] → None ≡ got_of m
@@ -83,4 +95,5 @@ got-bad (x ∷ m) b u = bad_by (is_utf8 (x ∷ m)) refl
 
 -- what stands behind a place, as the rest of a slice
 pub rest-is : (at : ℕ) (text : List ℕ) → take (length text - (at + 1)) (drop (at + 1) text) ≡ drop (suc at) text
-rest-is at text = rw add-one (ap (λ (n : ℕ). take n (drop (suc at) text)) (sym (length-drop (suc at) text)) ∙ take-length (drop (suc at) text))
+rest-is at text = rw add-one (ap (λ (n : ℕ). take n (drop (suc at) text)) (sym (length-drop (suc at) text))
+    ∙ take-length (drop (suc at) text))

@@ -1,5 +1,5 @@
 -- Numbers in decimal, one digit on.
-use Rattle.std.proofs.Common.{◌≡◌, ℕ, ◌+◌, ◌-◌, ◌*◌, ◌<◌, ◌≤◌, Bool, true, false, cond, List, [], ◌∷◌, suc, arith, refl, ap, ◌∙◌, length, drop, None}
+use Rattle.std.proofs.Common.{◌≡◌, ℕ, ◌+◌, ◌-◌, ◌*◌, ◌<◌, Bool, true, false, cond, List, [], ◌∷◌, suc, arith, refl, ap, ◌∙◌, length, drop, None}
 use Rattle.std.specs.Prelude.{slice_index}
 use Rattle.std.specs.Char.{is_ascii_digit}
 use Rattle.std.proofs.Math.Seq.{drop-cons}
@@ -10,7 +10,8 @@ pub too-large : (most value : ℕ) (bs : List ℕ) → most < value → within 0
 too-large most value [] large = grind (arith, large)
 too-large most value (b ∷ bs) large = pick (is_ascii_digit b) (too-large most (value * 10 + (b - 48)) bs (omega (arith, large)))
   where
-    pick : (digit : Bool) → within 0 most (digits (value * 10 + (b - 48)) bs) ≡ None → within 0 most (cond digit (digits (value * 10 + (b - 48)) bs) None) ≡ None
+    pick : (digit : Bool) → within 0 most (digits (value * 10 + (b - 48)) bs) ≡ None
+        → within 0 most (cond digit (digits (value * 10 + (b - 48)) bs) None) ≡ None
     pick true ih = ih
     pick false ih = refl
 

@@ -1,5 +1,5 @@
 -- Which script is a text, and which line of it is the first outside the grammar?
-use Rattle.std.specs.Prelude.{◌≡◌, ℕ, ◌+◌, ◌-◌, ◌*◌, Bool, true, false, ◌&&◌, ◌==◌, ⊤, List, [], ◌∷◌, Option, Some, None, Result, Ok, Err, bytes_eq, codes, drop, if◌then◌else◌, length, nat_le, take}
+use Rattle.std.specs.Prelude.{◌≡◌, ℕ, ◌+◌, ◌-◌, ◌*◌, ◌&&◌, ◌==◌, ⊤, List, [], ◌∷◌, Option, Some, None, Result, Ok, Err, bytes_eq, codes, drop, if◌then◌else◌, length, nat_le, take}
 use Rattle.hb_rules.specs.declared.limits.TheConstants.{FEWEST_CARDS, HIGHEST_RANK, MOST_CARDS, MOST_SUITS}
 use Rattle.hb_rules.specs.declared.suits.Identity.{Identity}
 use Rattle.hb_talk.specs.declared.scripts.ScriptLine.{ScriptLine}

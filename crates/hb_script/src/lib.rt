@@ -1,17 +1,25 @@
 //! Scripts: a whole club from a file.
 //!
 //! [`read_script`] answers the script that a text is, or the number of its first line outside the
-//! grammar.
+//! grammar. [`hello_lines`] and [`made_table`] give the lines of the script that is made of a
+//! number of tables and a seed, a table at a time, and [`summary`] the line that is written of its
+//! run. [`games_text`] gives the lines that are written of a member's kept games.
 #![tactic(auto)]
 
+mod choices;
 mod fields;
+mod games;
 mod heads;
 mod limits;
 mod lines;
+mod made;
 mod reading;
 mod scripts;
+mod tables;
 mod texts;
 
-pub use limits::CONNECTIONS;
+pub use games::games_text;
+pub use limits::{CONNECTIONS, MADE_MEMBERS};
+pub use made::{MadeTable, hello_lines, made_table, summary};
 pub use reading::read_script;
 pub use scripts::{Script, ScriptError};

@@ -17,5 +17,6 @@ loop-place-preserved c =
     let front = take_more_set c.loop-place.bytes c.loop-place.place c.in-Some.byte here in
     record {
       size = length-set c.loop-place.bytes c.loop-place.place c.in-Some.byte ∙ c.loop-place.invariant.size;
-      so = rw front (pair-item hex_byte at (2 * (c.loop-place.place + 1)) c.args.digits.now c.args.digits.now (take c.loop-place.place c.loop-place.bytes) c.in-Some.byte low next c.loop-place.invariant.so is);
+      so = rw front (pair-item hex_byte at (2 * (c.loop-place.place + 1)) c.args.digits.now c.args.digits.now (take c.loop-place.place
+          c.loop-place.bytes) c.in-Some.byte low next c.loop-place.invariant.so is);
     }
