@@ -24,7 +24,8 @@ ask-requires-clause-few c =
     let first : c.args.game.now.setup.players ≤ 6 = few-players c.args.game.now.setup.players c.requires.can.players in
     let six : game.setup.players ≤ 6 = subst (λ (g : Setup). g.players ≤ 6) (sym c.loop-taken.invariant.setup) first in
     let all = asks-length game.setup.players game.past in
-    number-low c.loop-taken.lines c.args.lines.now.table c.in-Some.seat (table_asks game.setup.players game.past) c.loop-taken.invariant.asked
+    number-low c.loop-taken.lines c.args.lines.now.table c.in-Some.seat (table_asks game.setup.players game.past)
+    c.loop-taken.invariant.asked
     (omega (arith, all, six, c.loop-taken.invariant.acts, c.loop-taken-test.true))
 
 pub loop-taken-preserved : goal.loop-taken-preserved
@@ -42,7 +43,10 @@ loop-taken-preserved c =
     omega (arith, c.loop-taken.invariant.acts) in
     let left : 160 - c.loop-taken.taken ≡ suc (160 - (c.loop-taken.taken + 1)) = omega (arith, c.loop-taken-test.true) in
     let asked : HasAsked c.ask.new.self serial (table_asks game.setup.players (by c.in-Some.seat c.next_action-action.result ∷ game.past)) =
-    subst (λ (a : Ask). HasAsked c.ask.new.self serial (record { member = c.in-Some.seat; ask = Some a } ∷ table_asks game.setup.players game.past))
+    subst (λ (a : Ask). HasAsked c.ask.new.self serial (record {
+      member = c.in-Some.seat;
+      ask = Some a;
+    } ∷ table_asks game.setup.players game.past))
     c.ask_of.ensures (c.in_ok-ask.ensures serial (table_asks game.setup.players game.past) c.loop-taken.invariant.asked) in
     record {
       setup = ap (λ (p : Position). p.setup) applied ∙ c.loop-taken.invariant.setup;
