@@ -1,0 +1,24 @@
+//! What do the lines of a script do, run over a hall, a keeper and a sink?
+//!
+//! [`run_script`] runs lines in order, over any [`Hall`](hb_house::Hall) and any
+//! [`Keeper`](hb_keeper::Keeper): what a connection says is a turn of its session, and a line of the
+//! clerk is one call of [`clerk`](hb_house::clerk). Each text is written at once, behind the number
+//! of its connection, so that no text is kept. A [`ScriptRun`] goes on: lists of lines that are run
+//! one after the other do what their lines do in one list.
+//!
+//! `specs/RunLines.antt` says what a line does and writes, and `specs/ScriptRuns.antt` what lines
+//! do, and what was done and written if a run stops. Both are relations, since events of others may
+//! come to a hall.
+#![tactic(auto)]
+
+mod ends;
+mod held;
+mod laws;
+mod lines;
+mod runs;
+mod texts;
+
+pub use ends::RunEnd;
+pub use held::{MOST_CONN, ScriptRun};
+pub use laws::runs_join;
+pub use runs::run_script;
