@@ -4,3 +4,7 @@ pub mod HeldLemmas
 pub mod TurnLinesLemmas
 pub mod ClerkLinesLemmas
 pub mod RunsLemmas
+pub mod ToldCallsLemmas
+pub mod LoneRoomsLemmas
+pub mod LoneRoundsLemmas
+pub mod LoneScriptLemmas

@@ -4,3 +4,6 @@ pub mod HeldRuns
 pub mod ScriptRuns
 pub mod RunSteps
 pub mod ScriptLaws
+pub mod LoneRuns
+pub mod ConnSights
+pub mod AlikeScripts

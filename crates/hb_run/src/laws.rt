@@ -1,9 +1,30 @@
-//! Which laws hold of the runs of lines?
+//! Which laws hold of the runs of lines, and of what a connection is sent?
 
+ghost use Rattle.hb_run.specs.AlikeScripts.{AlikeScripts};
+ghost use Rattle.hb_run.specs.LoneRuns.{LoneEnds, LoneFronts, LoneRuns};
 ghost use Rattle.hb_run.specs.ScriptLaws.{RunsJoin};
 
 /// A law, with no work to do: lists of lines that are run one after the other, each from the state
 /// that the one before left, do and write what their lines do in one list.
 pub fn runs_join()
     ensures { RunsJoin }
+{}
+
+/// A law, with no work to do: over a hall that nobody else calls, with a keeper that tells what it
+/// contains and which of its calls fail, lines that are run write the text that `script_text` says,
+/// and leave the lists, the keeper and the sessions as `stage_after` says. If the keeper answered
+/// that a key is kept with another game, or that its ids are used up, then the text of the lines
+/// before is the whole text of the script; and the text of the first lines is always a front of it.
+pub fn lone_scripts()
+    ensures runs { LoneRuns }
+    ensures ends { LoneEnds }
+    ensures fronts { LoneFronts }
+{}
+
+/// A law, with no work to do: the bytes that a script writes to one connection are a function of
+/// what came to it, of the lobby's replies to it, and of the entries that its member made, on
+/// whichever connection, with the views that the member had when they came and behind them. Neither
+/// replies nor decks are among these.
+pub fn scripts_see_the_view()
+    ensures { AlikeScripts }
 {}

@@ -8,7 +8,9 @@
 //!
 //! `specs/RunLines.antt` says what a line does and writes, and `specs/ScriptRuns.antt` what lines
 //! do, and what was done and written if a run stops. Both are relations, since events of others may
-//! come to a hall.
+//! come to a hall. If none come, and the keeper tells what it contains and which of its calls fail,
+//! then what is written is the text that `script_text` of `hb_talk` says ([`lone_scripts`]). What
+//! one connection is sent is a function of what its member may observe ([`scripts_see_the_view`]).
 #![tactic(auto)]
 
 mod ends;
@@ -20,5 +22,5 @@ mod texts;
 
 pub use ends::RunEnd;
 pub use held::{MOST_CONN, ScriptRun};
-pub use laws::runs_join;
+pub use laws::{lone_scripts, runs_join, scripts_see_the_view};
 pub use runs::run_script;
