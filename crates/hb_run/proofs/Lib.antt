@@ -8,3 +8,6 @@ pub mod ToldCallsLemmas
 pub mod LoneRoomsLemmas
 pub mod LoneRoundsLemmas
 pub mod LoneScriptLemmas
+pub mod SightLemmas
+pub mod WholeListsLemmas
+pub mod AlikeScriptLemmas
