@@ -138,7 +138,8 @@ faulted-cut Stands Tells h count alone moment s report run next b a why holds sa
 pub halted : (Stands : Fronts → Type 0) (Tells : Telling → Type 0) (h : House) (count : ℕ) (alone : Bool) (moment : ℕ) (s : RunState)
     (report : Report) (cause : ClerkError) (why : RunEnd) (run : ScriptRun) (b : Option (List ℕ))
     → ((t : RunState) → ClerkEnds h count alone cause (Some (line.Clerk moment)) s t
-    → HaltsBy h count alone why (Some (line.Clerk moment)) s t) → Holds h run s → Stopped Stands Tells alone h count moment s.fronts s.keeper report cause
+    → HaltsBy h count alone why (Some (line.Clerk moment)) s t) → Holds h run s
+    → Stopped Stands Tells alone h count moment s.fronts s.keeper report cause
     → StopsLine (IsAt Stands Tells h run) h count alone (line.Clerk moment) s b b why
 halted Stands Tells h count alone moment s report cause why run b go holds some =
     let t : RunState = stopped_at Stands Tells h count alone moment s report cause run.failed some in

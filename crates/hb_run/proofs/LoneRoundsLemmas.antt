@@ -15,41 +15,46 @@ use Rattle.hb_talk.specs.Keeping.{Keeping}
 use Rattle.hb_talk.specs.LoneClerk.{Round as LoneRound, clerk_round, new_round, visit_unless, visits}
 use Rattle.hb_run.specs.LoneRuns.{telling}
 use Rattle.hb_run.specs.RunLines.{ClerkHalts, RunState, place_of}
+use Rattle.hb_run.proofs.ToldCallsLemmas.{HasNoPlan, IsKnown}
 use Rattle.hb_run.proofs.LoneRoomsLemmas.{IsAtRoom, IsAtRoomBy, round-here, round-stops}
 
 -- the lone clerk has come as far as a clerk has
-pub record IsLone (p : Place) (r : LoneRound) : Type 0 where
+pub record IsLone (planned : Bool) (p : Place) (r : LoneRound) : Type 0 where
   pub rooms : (room : ℕ) → p.fronts.rooms room ≡ r.fronts.rooms room
   pub lobby : p.fronts.lobby ≡ r.fronts.lobby
-  pub keeper : p.keeper ≡ telling r.keeping
+  pub keeper : p.keeper ≡ telling planned r.keeping
+  pub plan : HasNoPlan planned r.keeping
   pub saved : p.report.saved ≡ r.saved
   pub loaded : p.report.loaded ≡ r.loaded
   pub missing : p.report.missing ≡ r.missing
 
 -- and has not stopped, or was refused
-pub record IsLoneBy (why : Option KeepError) (p : Place) (r : LoneRound) : Type 0 where
-  pub lone : IsLone p r
+pub record IsLoneBy (planned : Bool) (why : Option KeepError) (p : Place) (r : LoneRound) : Type 0 where
+  pub lone : IsLone planned p r
   pub refused : r.refused ≡ why
 
 -- one room
 
-to-room : (room : ℕ) (p : Place) (r : LoneRound) → IsLone p r → IsAtRoom room r r (p.fronts.rooms room) p.keeper p.report
-to-room room p r lone = record {
+to-room : (planned : Bool) (room : ℕ) (p : Place) (r : LoneRound) → IsLone planned p r → IsAtRoom planned room r r
+    (p.fronts.rooms room) p.keeper p.report
+to-room planned room p r lone = record {
   here = lone.rooms room;
   rest = (λ other apart. refl);
   lobby = refl;
   keeper = lone.keeper;
+  plan = lone.plan;
   saved = lone.saved;
   loaded = lone.loaded;
   missing = lone.missing;
 }
 
-from-room : (room : ℕ) (p q : Place) (start r : LoneRound) → IsLone p start → ElseSame room p.fronts q.fronts
-    → IsAtRoom room start r (q.fronts.rooms room) q.keeper q.report → IsLone q r
-from-room room p q start r lone others at = record {
+from-room : (planned : Bool) (room : ℕ) (p q : Place) (start r : LoneRound) → IsLone planned p start → ElseSame room p.fronts q.fronts
+    → IsAtRoom planned room start r (q.fronts.rooms room) q.keeper q.report → IsLone planned q r
+from-room planned room p q start r lone others at = record {
   rooms = (λ other. by other (nat_eq other room) refl);
   lobby = others.lobby ∙ (lone.lobby ∙ sym at.lobby);
   keeper = at.keeper;
+  plan = at.plan;
   saved = at.saved;
   loaded = at.loaded;
   missing = at.missing;
@@ -91,32 +96,35 @@ visits-next h moment n m r =
     ∙ ap (λ (k : ℕ). visits h moment (k ∷ range_with_len (k + 1) m) (visits h moment (range_with_len 1 n) r)) next)
 
 -- the first rooms have had their rounds
-pub rounds-lone : (h : House) (moment : ℕ) (p : Place) (n : ℕ) (q : Place) (r : LoneRound) → Rounds true h moment p n q → IsLone p r
-    → r.refused ≡ None → IsLoneBy None q (visits h moment (range_with_len 1 n) r)
-rounds-lone h moment p zero q r same lone free = record {
+pub rounds-lone : (planned : Bool) (h : House) (moment : ℕ) (p : Place) (n : ℕ) (q : Place) (r : LoneRound)
+    → Rounds true h moment p n q → IsLone planned p r
+    → r.refused ≡ None → IsLoneBy planned None q (visits h moment (range_with_len 1 n) r)
+rounds-lone planned h moment p zero q r same lone free = record {
   lone = record {
     rooms = (λ room. same.rooms room ∙ lone.rooms room);
     lobby = same.lobby ∙ lone.lobby;
     keeper = same.keeper ∙ lone.keeper;
+    plan = lone.plan;
     saved = ap (λ (t : Report). t.saved) same.report ∙ lone.saved;
     loaded = ap (λ (t : Report). t.loaded) same.report ∙ lone.loaded;
     missing = ap (λ (t : Report). t.missing) same.report ∙ lone.missing;
   };
   refused = free;
 }
-rounds-lone h moment p (suc n) q r more lone free =
+rounds-lone planned h moment p (suc n) q r more lone free =
     let b : Place = more.before in
     let done : LoneRound = visits h moment (range_with_len 1 n) r in
-    let before : IsLoneBy None b done = rounds-lone h moment p n b r more.rounds lone free in
-    let one : IsAtRoomBy None (suc n) done (visit_unless None h moment (suc n) done) (q.fronts.rooms (suc n)) q.keeper q.report =
-    round-here h (suc n) moment done (b.fronts.rooms (suc n)) (q.fronts.rooms (suc n)) b.keeper q.keeper b.report q.report before.refused
-    (to-room (suc n) b done before.lone) more.last.step in
+    let before : IsLoneBy planned None b done = rounds-lone planned h moment p n b r more.rounds lone free in
+    let one : IsAtRoomBy planned None (suc n) done (visit_unless None h moment (suc n) done) (q.fronts.rooms (suc n)) q.keeper q.report =
+    round-here planned h (suc n) moment done (b.fronts.rooms (suc n)) (q.fronts.rooms
+    (suc n)) b.keeper q.keeper b.report q.report before.refused
+    (to-room planned (suc n) b done before.lone) more.last.step in
     let size : suc n ≡ n + suc 0 = omega arith in
     let last : visits h moment (range_with_len 1 (suc n)) r ≡ visit_unless None h moment (suc n) done =
     ap (λ (k : ℕ). visits h moment (range_with_len 1 k) r) size
     ∙ (visits-next h moment n 0 r ∙ ap (λ (o : Option KeepError). visit_unless o h moment (suc n) done) before.refused) in
-    subst (IsLoneBy None q) (sym last) (record {
-      lone = from-room (suc n) b q done (visit_unless None h moment (suc n) done) before.lone more.last.others one.at;
+    subst (IsLoneBy planned None q) (sym last) (record {
+      lone = from-room planned (suc n) b q done (visit_unless None h moment (suc n) done) before.lone more.last.others one.at;
       refused = one.refused;
     })
 
@@ -133,10 +141,11 @@ visits-stopped why h moment (room ∷ rooms) r is =
     ap (visits h moment rooms) (visit-stopped why r.refused h moment room r is) ∙ visits-stopped why h moment rooms r is
 
 -- the clerk stopped in the round of the next room
-pub halts-lone : (h : House) (count moment : ℕ) (why : KeepError) (s t : RunState) (f : Fronts) (k : Keeping) → why ≢ keep.NoMemory
-    → IsLone (begun s.fronts s.keeper) (new_round f k) → (halts : ClerkHalts h count true moment (by_keeper why) s t)
-    → IsLoneBy (Some why) (place_of t halts.report) (clerk_round h count moment f k)
-halts-lone h count moment why s t f k known lone halts =
+pub halts-lone : (planned : Bool) (h : House) (count moment : ℕ) (why : KeepError) (s t : RunState) (f : Fronts) (k : Keeping)
+    → IsKnown planned why
+    → IsLone planned (begun s.fronts s.keeper) (new_round f k) → (halts : ClerkHalts h count true moment (by_keeper why) s t)
+    → IsLoneBy planned (Some why) (place_of t halts.report) (clerk_round h count moment f k)
+halts-lone planned h count moment why s t f k known lone halts =
     let n : ℕ = halts.done in
     let m : ℕ = count - (n + 1) in
     let within : n < count = halts.within in
@@ -144,19 +153,20 @@ halts-lone h count moment why s t f k known lone halts =
     let b : Place = halts.rounds.before in
     let q : Place = place_of t halts.report in
     let done : LoneRound = visits h moment (range_with_len 1 n) r in
-    let before : IsLoneBy None b done =
-    rounds-lone h moment (begun s.fronts s.keeper) n b r halts.rounds.rounds lone refl in
+    let before : IsLoneBy planned None b done =
+    rounds-lone planned h moment (begun s.fronts s.keeper) n b r halts.rounds.rounds lone refl in
     let next : LoneRound = visit_unless None h moment (suc n) done in
-    let one : IsAtRoomBy (Some why) (suc n) done next (q.fronts.rooms (suc n)) q.keeper q.report =
-    round-stops h (suc n) moment why done (b.fronts.rooms (suc n)) (q.fronts.rooms (suc n)) b.keeper q.keeper b.report q.report known
-    before.refused (to-room (suc n) b done before.lone) halts.rounds.last.step in
+    let one : IsAtRoomBy planned (Some why) (suc n) done next (q.fronts.rooms (suc n)) q.keeper q.report =
+    round-stops planned h (suc n) moment why done (b.fronts.rooms (suc n)) (q.fronts.rooms
+    (suc n)) b.keeper q.keeper b.report q.report known
+    before.refused (to-room planned (suc n) b done before.lone) halts.rounds.last.step in
     let size : count ≡ n + suc m = omega (arith, within) in
     let all : clerk_round h count moment f k ≡ next =
     ap (λ (x : ℕ). visits h moment (range_with_len 1 x) r) size
     ∙ (visits-next h moment n m r
     ∙ (ap (λ (o : Option KeepError). visits h moment (range_with_len (suc n + 1) m) (visit_unless o h moment (suc n) done)) before.refused
     ∙ visits-stopped why h moment (range_with_len (suc n + 1) m) next one.refused)) in
-    subst (IsLoneBy (Some why) q) (sym all) (record {
-      lone = from-room (suc n) b q done next before.lone halts.rounds.last.others one.at;
+    subst (IsLoneBy planned (Some why) q) (sym all) (record {
+      lone = from-room planned (suc n) b q done next before.lone halts.rounds.last.others one.at;
       refused = one.refused;
     })

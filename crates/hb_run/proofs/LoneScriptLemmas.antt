@@ -28,17 +28,18 @@ use Rattle.hb_talk.specs.LoneClerk.{Round as LoneRound, clerk_round, new_round}
 use Rattle.hb_talk.specs.Scripts.{Ran, Stage, after_clerk, clerk_text, fronts_after, is_fault, ran_unless, said, script_text, sent, session_of, stage_after}
 use Rattle.hb_talk.specs.Sessions.{RoomCalls, TurnCalls}
 use Rattle.hb_talk.specs.Turns.{FromLobby, FromRoom, Turn, heard, heard_when, turn_of, turn_on}
-use Rattle.hb_run.specs.LoneRuns.{IsScript, IsStage, LoneEnds, LoneFronts, LoneRuns, StopsScript}
+use Rattle.hb_run.specs.LoneRuns.{IsScript, IsStage, KnowsFaults, LoneEnds, LoneFronts, LoneRuns, StopsScript}
 use Rattle.hb_run.specs.RunLines.{ClerkFaults, ClerkHalts, ClerkRuns, LineRuns, RunState, TurnRuns, place_of, report_line}
 use Rattle.hb_run.specs.ScriptRuns.{ClerkEnds, Runs}
 use Rattle.hb_run.specs.WrittenFronts.{AppendsFront}
+use Rattle.hb_run.proofs.ToldCallsLemmas.{IsKnown}
 use Rattle.hb_run.proofs.LoneRoomsLemmas.{with_call-here, with_call-there}
 use Rattle.hb_run.proofs.LoneRoundsLemmas.{IsLone, IsLoneBy, halts-lone, rounds-lone}
 
 -- a line of a script wrote this text and came to the state of a run, stopped for this cause
-record IsRan (r : Ran) (t : RunState) (text : List ℕ) (why : Option KeepError) : Type 0 where
+record IsRan (planned : Bool) (r : Ran) (t : RunState) (text : List ℕ) (why : Option KeepError) : Type 0 where
   pub text_is : text ≡ r.text
-  pub stands : IsStage t r.stage
+  pub stands : IsStage planned t r.stage
   pub stopped_by : r.stage.stopped ≡ why
 
 -- the clerk
@@ -79,59 +80,72 @@ ran_by s r why = record {
 }
 
 -- the state behind it
-clerk-stands : (stage : Stage) (r : LoneRound) (s t : RunState) (report : Report) (why : Option KeepError) → IsStage s stage
-    → IsLone (place_of t report) r → t.sessions ≡ s.sessions → t.faulted ≡ (stage.faulted || is_fault why)
-    → IsStage t (ran_by stage r why).stage
-clerk-stands stage r s t report why stands lone sessions faulted = record {
+clerk-stands : (planned : Bool) (stage : Stage) (r : LoneRound) (s t : RunState) (report : Report) (why : Option KeepError)
+    → IsStage planned s stage
+    → IsLone planned (place_of t report) r → t.sessions ≡ s.sessions → t.faulted ≡ (stage.faulted || is_fault why)
+    → IsStage planned t (ran_by stage r why).stage
+clerk-stands planned stage r s t report why stands lone sessions faulted = record {
   rooms = lone.rooms;
   lobby = lone.lobby;
   keeper = lone.keeper;
+  plan = lone.plan;
   sessions = sessions ∙ stands.sessions;
   faulted = faulted;
 }
 
-begun-lone : (s : RunState) (stage : Stage) → IsStage s stage → IsLone (begun s.fronts s.keeper) (new_round stage.fronts stage.keeping)
-begun-lone s stage stands = record {
+begun-lone : (planned : Bool) (s : RunState) (stage : Stage) → IsStage planned s stage → IsLone planned (begun s.fronts s.keeper)
+    (new_round stage.fronts stage.keeping)
+begun-lone planned s stage stands = record {
   rooms = stands.rooms;
   lobby = stands.lobby;
   keeper = stands.keeper;
+  plan = stands.plan;
   saved = refl;
   loaded = refl;
   missing = refl;
 }
 
-clerk-ran : (h : House) (count moment : ℕ) (stage : Stage) (s t : RunState) (text : List ℕ) → IsStage s stage
+clerk-ran : (planned : Bool) (h : House) (count moment : ℕ) (stage : Stage) (s t : RunState) (text : List ℕ) → IsStage planned s stage
     → ClerkRuns h count true moment s t text
-    → IsRan (after_clerk stage (clerk_round h count moment stage.fronts stage.keeping)) t text None
-clerk-ran h count moment stage s t text stands ran =
+    → IsRan planned (after_clerk stage (clerk_round h count moment stage.fronts stage.keeping)) t text None
+clerk-ran planned h count moment stage s t text stands ran =
     let r : LoneRound = clerk_round h count moment stage.fronts stage.keeping in
-    let all : IsLoneBy None (place_of t ran.report) r =
-    rounds-lone h moment (begun s.fronts s.keeper) count (place_of t ran.report) (new_round stage.fronts stage.keeping) ran.rounds
-    (begun-lone s stage stands) refl in
+    let all : IsLoneBy planned None (place_of t ran.report) r =
+    rounds-lone planned h moment (begun s.fronts s.keeper) count (place_of t ran.report) (new_round stage.fronts stage.keeping) ran.rounds
+    (begun-lone planned s stage stands) refl in
     let lone = all.lone in
-    let end : IsRan (ran_by stage r None) t text None = record {
+    let end : IsRan planned (ran_by stage r None) t text None = record {
       text_is = ran.tells ∙ report-is ran.report r lone.saved lone.loaded lone.missing;
-      stands = clerk-stands stage r s t ran.report None stands lone ran.sessions
+      stands = clerk-stands planned stage r s t ran.report None stands lone ran.sessions
           (ran.faulted ∙ (stands.faulted ∙ sym (or-false stage.faulted)));
       stopped_by = refl;
     } in
-    subst (λ (o : Option KeepError). IsRan (ran_by stage r o) t text None) (sym all.refused) end
+    subst (λ (o : Option KeepError). IsRan planned (ran_by stage r o) t text None) (sym all.refused) end
 
-clerk-faulted : (h : House) (count moment : ℕ) (stage : Stage) (s t : RunState) (text : List ℕ) → IsStage s stage
-    → ClerkFaults h count true moment s t text
-    → IsRan (after_clerk stage (clerk_round h count moment stage.fronts stage.keeping)) t text None
-clerk-faulted h count moment stage s t text stands fault =
+-- (a fault was met, so faults are told)
+told-fault : (planned : Bool) (t : RunState) → KnowsFaults planned t → t.faulted ≡ true → planned ≡ true
+told-fault planned t (inl told) is = told
+told-fault planned t (inr calm) is = let both : true ≡ false = sym is ∙ calm in absurd cc
+
+fault-known : (planned : Bool) (t : RunState) → KnowsFaults planned t → t.faulted ≡ true → IsKnown planned keep.Fault
+fault-known planned t knows is = record { memory = (λ bad. cc); fault = (λ same. told-fault planned t knows is) }
+
+clerk-faulted : (planned : Bool) (h : House) (count moment : ℕ) (stage : Stage) (s t : RunState) (text : List ℕ) → IsStage planned s stage
+    → KnowsFaults planned t → ClerkFaults h count true moment s t text
+    → IsRan planned (after_clerk stage (clerk_round h count moment stage.fronts stage.keeping)) t text None
+clerk-faulted planned h count moment stage s t text stands knows fault =
     let r : LoneRound = clerk_round h count moment stage.fronts stage.keeping in
     let halts : ClerkHalts h count true moment (by_keeper keep.Fault) s t = fault.halts in
-    let all : IsLoneBy (Some keep.Fault) (place_of t halts.report) r =
-    halts-lone h count moment keep.Fault s t stage.fronts stage.keeping (λ is. cc) (begun-lone s stage stands) halts in
-    let end : IsRan (ran_by stage r (Some keep.Fault)) t text None = record {
+    let all : IsLoneBy planned (Some keep.Fault) (place_of t halts.report) r =
+    halts-lone planned h count moment keep.Fault s t stage.fronts stage.keeping (fault-known planned t knows fault.faulted)
+    (begun-lone planned s stage stands) halts in
+    let end : IsRan planned (ran_by stage r (Some keep.Fault)) t text None = record {
       text_is = fault.tells;
-      stands = clerk-stands stage r s t halts.report (Some keep.Fault) stands all.lone halts.sessions
+      stands = clerk-stands planned stage r s t halts.report (Some keep.Fault) stands all.lone halts.sessions
           (fault.faulted ∙ sym (or-true stage.faulted));
       stopped_by = refl;
     } in
-    subst (λ (o : Option KeepError). IsRan (ran_by stage r o) t text None) (sym all.refused) end
+    subst (λ (o : Option KeepError). IsRan planned (ran_by stage r o) t text None) (sym all.refused) end
 
 -- a turn
 
@@ -193,7 +207,8 @@ calls-lone count (errand.Calls room e) f g stood same calls = room-called (is_ro
 
 room-heard : (is : Bool) (h : House) (f g : Fronts) (room : ℕ) (e : Entry) → f.rooms room ≡ g.rooms room
     → heard_when is h f room e ≡ heard_when is h g room e
-room-heard true h f g room e same = ap (λ (l : List RoomEvent). FromRoom room e (answer_to (site_of h room) l) (view_at (site_of h room) l e.member)) same
+room-heard true h f g room e same = ap (λ (l : List RoomEvent). FromRoom room e (answer_to (site_of h room) l) (view_at
+    (site_of h room) l e.member)) same
 room-heard false h f g room e same = refl
 
 heard-same : (h : House) (count : ℕ) (f g : Fronts) (task : Errand) → SameLists f g → heard h count f task ≡ heard h count g task
@@ -208,10 +223,11 @@ turn-same : (h : House) (count : ℕ) (f g : Fronts) (x : Session) (task : Erran
 unfolding turn_of
 turn-same h count f g x task same = ap (turn_on x task) (heard-same h count f g task same)
 
-said-ran : (h : House) (count conn moment : ℕ) (got : Got) (stage : Stage) (s t : RunState) (text : List ℕ) → IsStage s stage
+said-ran : (planned : Bool) (h : House) (count conn moment : ℕ) (got : Got) (stage : Stage) (s t : RunState) (text : List ℕ)
+    → IsStage planned s stage
     → stage.stopped ≡ None → TurnRuns h count true conn (asked (session_of conn s.sessions) moment got) s t text
-    → IsRan (said h count conn stage (asked (session_of conn stage.sessions) moment got)) t text None
-said-ran h count conn moment got stage s t text stands free was =
+    → IsRan planned (said h count conn stage (asked (session_of conn stage.sessions) moment got)) t text None
+said-ran planned h count conn moment got stage s t text stands free was =
     let x : Session = session_of conn stage.sessions in
     let task : Errand = asked x moment got in
     let same_x : session_of conn s.sessions ≡ x = ap (session_of conn) stands.sessions in
@@ -228,6 +244,7 @@ said-ran h count conn moment got stage s t text stands free was =
         rooms = lists.rooms;
         lobby = lists.lobby;
         keeper = turn.keeper ∙ stands.keeper;
+        plan = stands.plan;
         sessions = turn.sessions
             ∙ (ap (λ (u : Turn). (conn, u.left) ∷ s.sessions) turns
             ∙ ap (λ (l : List (ℕ × Session)). (conn, (turn_of h count after x task).left) ∷ l) stands.sessions);
@@ -238,12 +255,16 @@ said-ran h count conn moment got stage s t text stands free was =
 
 -- a line
 
-line-ran : (h : House) (count : ℕ) (l : ScriptLine) (stage : Stage) (s t : RunState) (text : List ℕ) → IsStage s stage
-    → stage.stopped ≡ None → LineRuns h count true l s t text → IsRan (ran_unless None h count stage l) t text None
-line-ran h count (line.Clerk moment) stage s t text stands free (inl ran) = clerk-ran h count moment stage s t text stands ran
-line-ran h count (line.Clerk moment) stage s t text stands free (inr fault) = clerk-faulted h count moment stage s t text stands fault
-line-ran h count (line.Says moment conn got) stage s t text stands free turn =
-    said-ran h count conn moment got stage s t text stands free turn
+line-ran : (planned : Bool) (h : House) (count : ℕ) (l : ScriptLine) (stage : Stage) (s t : RunState) (text : List ℕ)
+    → IsStage planned s stage
+    → stage.stopped ≡ None → KnowsFaults planned t → LineRuns h count true l s t text → IsRan planned
+    (ran_unless None h count stage l) t text None
+line-ran planned h count (line.Clerk moment) stage s t text stands free knows
+    (inl ran) = clerk-ran planned h count moment stage s t text stands ran
+line-ran planned h count (line.Clerk moment) stage s t text stands free knows (inr fault) =
+    clerk-faulted planned h count moment stage s t text stands knows fault
+line-ran planned h count (line.Says moment conn got) stage s t text stands free knows turn =
+    said-ran planned h count conn moment got stage s t text stands free turn
 
 -- lists of lines, which stand newest first here
 
@@ -267,65 +288,91 @@ script_text-append h count s (l ∷ later) lines =
     ∙ append_assoc (script_text h count s lines) (script_text h count (stage_after h count s lines) later) (wrote before))
 
 -- one line
-stage_after-one : (h : House) (count : ℕ) (s : Stage) (l : ScriptLine) → stage_after h count s (l ∷ []) ≡ (ran_unless s.stopped h count s l).stage
+stage_after-one : (h : House) (count : ℕ) (s : Stage) (l : ScriptLine) → stage_after h count s (l ∷ []) ≡
+    (ran_unless s.stopped h count s l).stage
 unfolding stage_after
 stage_after-one h count s l = refl
 
-script_text-one : (h : House) (count : ℕ) (s : Stage) (l : ScriptLine) → script_text h count s (l ∷ []) ≡ (ran_unless s.stopped h count s l).text
+script_text-one : (h : House) (count : ℕ) (s : Stage) (l : ScriptLine) → script_text h count s (l ∷ []) ≡
+    (ran_unless s.stopped h count s l).text
 unfolding script_text stage_after
 script_text-one h count s l = refl
 
 -- scripts, whose lines stand in their order
 
 -- lines behind lines
-script-join : (h : House) (count : ℕ) (stage : Stage) (lines others : List ScriptLine) (s t : RunState) (text more : List ℕ)
-    (why : Option KeepError) → IsScript h count stage lines text s None
-    → IsScript h count (stage_after h count stage (reverse lines)) others more t why
-    → IsScript h count stage (lines ++ others) (text ++ more) t why
-script-join h count stage lines others s t text more why first next =
+script-join : (planned : Bool) (h : House) (count : ℕ) (stage : Stage) (lines others : List ScriptLine) (s t : RunState)
+    (text more : List ℕ)
+    (why : Option KeepError) → IsScript planned h count stage lines text s None
+    → IsScript planned h count (stage_after h count stage (reverse lines)) others more t why
+    → IsScript planned h count stage (lines ++ others) (text ++ more) t why
+script-join planned h count stage lines others s t text more why first next =
     let middle : Stage = stage_after h count stage (reverse lines) in
     let order : reverse (lines ++ others) ≡ reverse others ++ reverse lines = reverse-append lines others in
     let stages : stage_after h count stage (reverse (lines ++ others)) ≡ stage_after h count middle (reverse others) =
     ap (stage_after h count stage) order ∙ stage_after-append h count stage (reverse others) (reverse lines) in
     let texts : script_text h count stage (reverse (lines ++ others))
-        ≡ script_text h count stage (reverse lines) ++ script_text h count middle (reverse others) =
+    ≡ script_text h count stage (reverse lines) ++ script_text h count middle (reverse others) =
     ap (script_text h count stage) order ∙ script_text-append h count stage (reverse others) (reverse lines) in
     record {
       text_is = ap (λ (x : List ℕ). x ++ more) first.text_is
           ∙ (ap (λ (x : List ℕ). script_text h count stage (reverse lines) ++ x) next.text_is ∙ sym texts);
-      stands = subst (IsStage t) (sym stages) next.stands;
+      stands = subst (IsStage planned t) (sym stages) next.stands;
       stopped_by = ap (λ (b : Stage). b.stopped) stages ∙ next.stopped_by;
     }
 
-no-script : (h : House) (count : ℕ) (stage : Stage) (s : RunState) (why : Option KeepError) → IsStage s stage → stage.stopped ≡ why
-    → IsScript h count stage [] [] s why
+no-script : (planned : Bool) (h : House) (count : ℕ) (stage : Stage) (s : RunState) (why : Option KeepError) → IsStage planned s stage
+    → stage.stopped ≡ why
+    → IsScript planned h count stage [] [] s why
 unfolding stage_after script_text
-no-script h count stage s why stands is = record { text_is = refl; stands = stands; stopped_by = is }
+no-script planned h count stage s why stands is = record { text_is = refl; stands = stands; stopped_by = is }
 
-script-one : (h : House) (count : ℕ) (stage : Stage) (l : ScriptLine) (t : RunState) (text : List ℕ) (why : Option KeepError)
-    → stage.stopped ≡ None → IsRan (ran_unless None h count stage l) t text why → IsScript h count stage (l ∷ []) text t why
-script-one h count stage l t text why free ran =
-    let one : IsRan (ran_unless stage.stopped h count stage l) t text why =
-    subst (λ (o : Option KeepError). IsRan (ran_unless o h count stage l) t text why) (sym free) ran in
+script-one : (planned : Bool) (h : House) (count : ℕ) (stage : Stage) (l : ScriptLine) (t : RunState) (text : List ℕ)
+    (why : Option KeepError)
+    → stage.stopped ≡ None → IsRan planned (ran_unless None h count stage l) t text why → IsScript planned h count stage (l ∷ []) text t why
+script-one planned h count stage l t text why free ran =
+    let one : IsRan planned (ran_unless stage.stopped h count stage l) t text why =
+    subst (λ (o : Option KeepError). IsRan planned (ran_unless o h count stage l) t text why) (sym free) ran in
     record {
       text_is = one.text_is ∙ sym (script_text-one h count stage l);
-      stands = subst (IsStage t) (sym (stage_after-one h count stage l)) one.stands;
+      stands = subst (IsStage planned t) (sym (stage_after-one h count stage l)) one.stands;
       stopped_by = ap (λ (b : Stage). b.stopped) (stage_after-one h count stage l) ∙ one.stopped_by;
     }
 
+-- a run in which no fault was met met none at first
+
+line-calm : (h : House) (count : ℕ) (l : ScriptLine) (s t : RunState) (text : List ℕ) → LineRuns h count true l s t text
+    → t.faulted ≡ false → s.faulted ≡ false
+line-calm h count (line.Clerk moment) s t text (inl ran) calm = sym ran.faulted ∙ calm
+line-calm h count (line.Clerk moment) s t text (inr fault) calm = let both : true ≡ false = sym fault.faulted ∙ calm in absurd cc
+line-calm h count (line.Says moment conn got) s t text turn calm = sym turn.faulted ∙ calm
+
+runs-calm : (h : House) (count : ℕ) (lines : List ScriptLine) (s t : RunState) (text : List ℕ) → Runs h count true lines s t text
+    → t.faulted ≡ false → s.faulted ≡ false
+runs-calm h count [] s t text ran calm = sym (ap (λ (k : RunState). k.faulted) ran.0) ∙ calm
+runs-calm h count (l ∷ lines) s t text ran calm =
+    line-calm h count l s ran.between ran.first ran.line (runs-calm h count lines ran.between t ran.rest ran.others calm)
+
+knows-before : (planned : Bool) (h : House) (count : ℕ) (lines : List ScriptLine) (s t : RunState) (text : List ℕ)
+    → Runs h count true lines s t text → KnowsFaults planned t → KnowsFaults planned s
+knows-before planned h count lines s t text ran (inl told) = inl told
+knows-before planned h count lines s t text ran (inr calm) = inr (runs-calm h count lines s t text ran calm)
+
 -- lines that are run
 pub lone-runs : LoneRuns
-lone-runs h count [] stage s t text stands free ran =
-    subst (λ (x : List ℕ). IsScript h count stage [] x t None) (sym ran.1)
-    (subst (λ (k : RunState). IsScript h count stage [] [] k None) (sym ran.0) (no-script h count stage s None stands free))
-lone-runs h count (l ∷ lines) stage s t text stands free ran =
-    let one : IsScript h count stage (l ∷ []) ran.first ran.between None =
-    script-one h count stage l ran.between ran.first None free (line-ran h count l stage s ran.between ran.first stands free ran.line) in
+lone-runs planned h count [] stage s t text stands free knows ran =
+    subst (λ (x : List ℕ). IsScript planned h count stage [] x t None) (sym ran.1)
+    (subst (λ (k : RunState). IsScript planned h count stage [] [] k None) (sym ran.0) (no-script planned h count stage s None stands free))
+lone-runs planned h count (l ∷ lines) stage s t text stands free knows ran =
+    let before : KnowsFaults planned ran.between = knows-before planned h count lines ran.between t ran.rest ran.others knows in
+    let one : IsScript planned h count stage (l ∷ []) ran.first ran.between None =
+    script-one planned h count stage l ran.between ran.first None free
+    (line-ran planned h count l stage s ran.between ran.first stands free before ran.line) in
     let middle : Stage = stage_after h count stage (reverse (l ∷ [])) in
-    let others : IsScript h count middle lines ran.rest t None =
-    lone-runs h count lines middle ran.between t ran.rest one.stands one.stopped_by ran.others in
-    subst (λ (x : List ℕ). IsScript h count stage (l ∷ lines) x t None) (sym ran.joined)
-    (script-join h count stage (l ∷ []) lines ran.between t ran.first ran.rest None one others)
+    let others : IsScript planned h count middle lines ran.rest t None =
+    lone-runs planned h count lines middle ran.between t ran.rest one.stands one.stopped_by knows ran.others in
+    subst (λ (x : List ℕ). IsScript planned h count stage (l ∷ lines) x t None) (sym ran.joined)
+    (script-join planned h count stage (l ∷ []) lines ran.between t ran.first ran.rest None one others)
 
 -- a script that stopped
 
@@ -351,9 +398,10 @@ stopped-text why h count s (l ∷ lines) is =
     ∙ (ap (λ (b : Stage). (ran_unless b.stopped h count b l).text) (stopped-stage why h count s lines is)
     ∙ ap (λ (r : Ran). r.text) (stopped-ran why h count s l is))
 
-script-stopped : (h : House) (count : ℕ) (stage : Stage) (lines others : List ScriptLine) (t : RunState) (text : List ℕ) (why : KeepError)
-    → IsScript h count stage lines text t (Some why) → IsScript h count stage (lines ++ others) text t (Some why)
-script-stopped h count stage lines others t text why first =
+script-stopped : (planned : Bool) (h : House) (count : ℕ) (stage : Stage) (lines others : List ScriptLine) (t : RunState)
+    (text : List ℕ) (why : KeepError)
+    → IsScript planned h count stage lines text t (Some why) → IsScript planned h count stage (lines ++ others) text t (Some why)
+script-stopped planned h count stage lines others t text why first =
     let middle : Stage = stage_after h count stage (reverse lines) in
     let order : reverse (lines ++ others) ≡ reverse others ++ reverse lines = reverse-append lines others in
     let stages : stage_after h count stage (reverse (lines ++ others)) ≡ middle =
@@ -368,16 +416,16 @@ script-stopped h count stage lines others t text why first =
     ∙ append-nil (script_text h count stage (reverse lines)))) in
     record {
       text_is = first.text_is ∙ sym texts;
-      stands = subst (IsStage t) (sym stages) first.stands;
+      stands = subst (IsStage planned t) (sym stages) first.stands;
       stopped_by = ap (λ (b : Stage). b.stopped) stages ∙ first.stopped_by;
     }
 
 -- (such a refusal is no fault, and no want of memory, and it writes nothing)
-stops-known : (why : KeepError) → StopsScript why → why ≢ keep.NoMemory
-stops-known keep.Fault stops = absurd stops
-stops-known (keep.KeyDiffers id) stops = λ is. cc
-stops-known keep.UsedUp stops = λ is. cc
-stops-known keep.NoMemory stops = absurd stops
+stops-known : (planned : Bool) (why : KeepError) → StopsScript why → IsKnown planned why
+stops-known planned keep.Fault stops = absurd stops
+stops-known planned (keep.KeyDiffers id) stops = record { memory = (λ bad. cc); fault = (λ bad. absurd cc) }
+stops-known planned keep.UsedUp stops = record { memory = (λ bad. cc); fault = (λ bad. absurd cc) }
+stops-known planned keep.NoMemory stops = absurd stops
 
 stops-quiet : (why : KeepError) → StopsScript why → is_fault (Some why) ≡ false
 stops-quiet keep.Fault stops = absurd stops
@@ -391,22 +439,24 @@ stops-text (keep.KeyDiffers id) r stops = refl
 stops-text keep.UsedUp r stops = refl
 stops-text keep.NoMemory r stops = refl
 
-clerk-stopped : (h : House) (count moment : ℕ) (why : KeepError) (stage : Stage) (s t : RunState) → StopsScript why → IsStage s stage
+clerk-stopped : (planned : Bool) (h : House) (count moment : ℕ) (why : KeepError) (stage : Stage) (s t : RunState) → StopsScript why
+    → IsStage planned s stage
     → ClerkHalts h count true moment (by_keeper why) s t → t.faulted ≡ s.faulted
-    → IsRan (after_clerk stage (clerk_round h count moment stage.fronts stage.keeping)) t [] (Some why)
-clerk-stopped h count moment why stage s t stops stands halts faulted =
+    → IsRan planned (after_clerk stage (clerk_round h count moment stage.fronts stage.keeping)) t [] (Some why)
+clerk-stopped planned h count moment why stage s t stops stands halts faulted =
     let r : LoneRound = clerk_round h count moment stage.fronts stage.keeping in
-    let all : IsLoneBy (Some why) (place_of t halts.report) r =
-    halts-lone h count moment why s t stage.fronts stage.keeping (stops-known why stops) (begun-lone s stage stands) halts in
+    let all : IsLoneBy planned (Some why) (place_of t halts.report) r =
+    halts-lone planned h count moment why s t stage.fronts stage.keeping (stops-known planned why stops)
+    (begun-lone planned s stage stands) halts in
     let quiet : is_fault (Some why) ≡ false = stops-quiet why stops in
-    let end : IsRan (ran_by stage r (Some why)) t [] (Some why) = record {
+    let end : IsRan planned (ran_by stage r (Some why)) t [] (Some why) = record {
       text_is = sym (stops-text why r stops);
-      stands = clerk-stands stage r s t halts.report (Some why) stands all.lone halts.sessions
+      stands = clerk-stands planned stage r s t halts.report (Some why) stands all.lone halts.sessions
           (faulted ∙ (stands.faulted
           ∙ (sym (or-false stage.faulted) ∙ ap (λ (b : Bool). stage.faulted || b) (sym quiet))));
       stopped_by = ap (λ (b : Bool). if b then None else Some why) quiet;
     } in
-    subst (λ (o : Option KeepError). IsRan (ran_by stage r o) t [] (Some why)) (sym all.refused) end
+    subst (λ (o : Option KeepError). IsRan planned (ran_by stage r o) t [] (Some why)) (sym all.refused) end
 
 split-at : (lines : List ScriptLine) (done : ℕ) (l : ScriptLine) → slice_get lines done ≡ Some l
     → (take done lines ++ l ∷ []) ++ drop (suc done) lines ≡ lines
@@ -419,20 +469,23 @@ split-at lines done l is =
     ∙ (ap (λ (x : List ScriptLine). take done lines ++ x) (sym here) ∙ take-append-drop done lines)
 
 pub lone-ends : LoneEnds
-lone-ends h count lines done stage s t rest text why stands free ran stops ends =
-    let first : IsScript h count stage (take done lines) text t None =
-    lone-runs h count (take done lines) stage s t text stands free ran in
+lone-ends planned h count lines done stage s t rest text why stands free knows ran stops ends =
+    let first : IsScript planned h count stage (take done lines) text t None =
+    lone-runs planned h count (take done lines) stage s t text stands free knows ran in
     let middle : Stage = stage_after h count stage (reverse (take done lines)) in
-    let last : IsScript h count middle (line.Clerk ends.moment ∷ []) [] rest (Some why) =
-    script-one h count middle (line.Clerk ends.moment) rest [] (Some why) first.stopped_by
-    (clerk-stopped h count ends.moment why middle t rest stops first.stands ends.halts ends.faulted) in
-    let all : IsScript h count stage (take done lines ++ line.Clerk ends.moment ∷ []) (text ++ []) rest (Some why) =
-    script-join h count stage (take done lines) (line.Clerk ends.moment ∷ []) t rest text [] (Some why) first last in
-    let stopped : IsScript h count stage ((take done lines ++ line.Clerk ends.moment ∷ []) ++ drop (suc done) lines) (text ++ []) rest
+    let last : IsScript planned h count middle (line.Clerk ends.moment ∷ []) [] rest (Some why) =
+    script-one planned h count middle (line.Clerk ends.moment) rest [] (Some why) first.stopped_by
+    (clerk-stopped planned h count ends.moment why middle t rest stops first.stands ends.halts ends.faulted) in
+    let all : IsScript planned h count stage (take done lines ++ line.Clerk ends.moment ∷ []) (text ++ []) rest (Some why) =
+    script-join planned h count stage (take done lines) (line.Clerk ends.moment ∷ []) t rest text [] (Some why) first last in
+    let stopped : IsScript planned h count stage ((take done lines ++ line.Clerk ends.moment ∷ []) ++ drop (suc done) lines)
+    (text ++ []) rest
     (Some why) =
-    script-stopped h count stage (take done lines ++ line.Clerk ends.moment ∷ []) (drop (suc done) lines) rest (text ++ []) why all in
-    subst (λ (x : List ℕ). IsScript h count stage lines x rest (Some why)) (append-nil text)
-    (subst (λ (x : List ScriptLine). IsScript h count stage x (text ++ []) rest (Some why)) (split-at lines done (line.Clerk ends.moment)
+    script-stopped planned h count stage (take done lines ++ line.Clerk ends.moment ∷ []) (drop (suc done) lines) rest
+    (text ++ []) why all in
+    subst (λ (x : List ℕ). IsScript planned h count stage lines x rest (Some why)) (append-nil text)
+    (subst (λ (x : List ScriptLine). IsScript planned h count stage x (text ++ []) rest (Some why)) (split-at lines done
+    (line.Clerk ends.moment)
     ends.is) stopped)
 
 -- fronts of the text

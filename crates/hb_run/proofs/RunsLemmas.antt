@@ -157,6 +157,7 @@ fault-more X Y Z a b c first last ab bc z = by (last z)
     later : X ⊎ Rose a b → X ⊎ Rose a c
     later (inl x) = inl x
     later (inr rose) = let r : Rose a b = rose in inr (omega (arith, r, bc))
+
     by : Y ⊎ Rose b c → X ⊎ Rose a c
     by (inl y) = later (first y)
     by (inr rose) = let r : Rose b c = rose in inr (omega (arith, r, ab))

@@ -20,16 +20,23 @@ sent-append conn (x ∷ xs) ys = sent-cons conn x (xs ++ ys) ∙ ap (λ l. sent_
     ∙ sym (append_assoc (sent_line conn x) (sent conn xs) (sent conn ys)) ∙ ap (λ l. l ++ sent conn ys) (sym (sent-cons conn x xs))
 
 -- a front of what comes behind a written front
-pub front-behind : (a b c : Option (List ℕ)) (first next rest : List ℕ) → Appends a b first → AppendsFront b c next → AppendsFront a c (first ++ (next ++ rest))
+pub front-behind : (a b c : Option (List ℕ)) (first next rest : List ℕ) → Appends a b first → AppendsFront b c next
+    → AppendsFront a c (first ++ (next ++ rest))
 front-behind a b c first next rest p q =
     let fits = q.within in
     let within : length first + q.bytes ≤ length (first ++ (next ++ rest)) = grind (arith, length-append, fits) in
     let same : take (length first + q.bytes) (first ++ (next ++ rest)) ≡ first ++ take q.bytes next =
     take-append-add first (next ++ rest) q.bytes ∙ ap (λ l. first ++ l) (take-append-le q.bytes next rest q.within) in
-    record { bytes = length first + q.bytes; within = within; written = subst (Appends a c) (sym same) (Appends-trans a b c _ _ p q.written) }
+    record {
+      bytes = length first + q.bytes;
+      within = within;
+      written = subst (Appends a c) (sym same)
+          (Appends-trans a b c _ _ p q.written);
+    }
 
 -- one text more
-pub sent-more : (a b c : Option (List ℕ)) (conn i : ℕ) (texts : List (List ℕ)) (d : List ℕ) → i < length texts → Appends a b (sent conn (take i texts))
+pub sent-more : (a b c : Option (List ℕ)) (conn i : ℕ) (texts : List (List ℕ)) (d : List ℕ) → i < length texts
+    → Appends a b (sent conn (take i texts))
     → Appends b c (sent_line conn (get_or texts i d)) → Appends a c (sent conn (take (suc i) texts))
 sent-more a b c conn i texts d within p q =
     let same : sent conn (take (suc i) texts) ≡ sent conn (take i texts) ++ sent_line conn (get_or texts i d) =
@@ -41,7 +48,8 @@ sent-split : (conn i : ℕ) (texts : List (List ℕ)) → sent conn texts ≡ se
 sent-split conn i texts = ap (sent conn) (sym (take-append-drop i texts)) ∙ sent-append conn (take i texts) (drop i texts)
 
 -- and a front of it
-pub sent-cut : (a b c : Option (List ℕ)) (conn i : ℕ) (texts : List (List ℕ)) (d : List ℕ) → i < length texts → Appends a b (sent conn (take i texts))
+pub sent-cut : (a b c : Option (List ℕ)) (conn i : ℕ) (texts : List (List ℕ)) (d : List ℕ) → i < length texts
+    → Appends a b (sent conn (take i texts))
     → AppendsFront b c (sent_line conn (get_or texts i d)) → AppendsFront a c (sent conn texts)
 sent-cut a b c conn i texts d within p q =
     let rest = sent conn (drop (suc i) texts) in
@@ -55,5 +63,6 @@ front-whole a b first rest p =
     let bound : length first ≤ length (first ++ rest) = grind (arith, length-append) in
     record { bytes = length first; within = bound; written = subst (Appends a b) (sym (take-append_seam first rest)) p }
 
-pub sent-nothing : (a b : Option (List ℕ)) (conn i : ℕ) (texts : List (List ℕ)) → Appends a b (sent conn (take i texts)) → AppendsFront a b (sent conn texts)
+pub sent-nothing : (a b : Option (List ℕ)) (conn i : ℕ) (texts : List (List ℕ)) → Appends a b (sent conn (take i texts))
+    → AppendsFront a b (sent conn texts)
 sent-nothing a b conn i texts p = subst (AppendsFront a b) (sym (sent-split conn i texts)) (front-whole a b _ _ p)

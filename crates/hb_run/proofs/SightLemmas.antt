@@ -32,12 +32,12 @@ abbrev pub own_from : ℕ → List EntrySight → List OwnEntry
 own_from table [] = []
 own_from table (x ∷ older) =
     (if x.entry.table == table
-     then record {
-       entry = x.entry;
-       reply = answer x.before (own_from x.before.latest older) x.entry;
-       count = length x.behind.items;
-     } ∷ []
-     else []) ++ own_from table older
+    then record {
+      entry = x.entry;
+      reply = answer x.before (own_from x.before.latest older) x.entry;
+      count = length x.behind.items;
+    } ∷ []
+    else []) ++ own_from table older
 
 -- a room replies what is read off the view and the own entries
 replied : (s : Site) (events : List RoomEvent) (e : Entry) → BringWhole events
@@ -65,7 +65,8 @@ pick-other o true own is = rw is refl
 pick-other o false own is = refl
 
 -- an entry of the member, with what was observed at it
-own-mine : (s : Site) (member : List ℕ) (table : ℕ) (events : List RoomEvent) (e : Entry) → BringWhole events → bytes_eq member e.member ≡ true
+own-mine : (s : Site) (member : List ℕ) (table : ℕ) (events : List RoomEvent) (e : Entry) → BringWhole events
+    → bytes_eq member e.member ≡ true
     → own_entries table member (past_of s events) ≡ own_from table (own_sights s events member)
     → own_entries (table_at s events).latest member (past_of s events)
     ≡ own_from (table_at s events).latest (own_sights s events member)
@@ -110,7 +111,8 @@ own-seen s member table (Notes moment notice ∷ events) whole = own-seen s memb
 own-seen s member table (Call e ∷ events) whole = by (bytes_eq member e.member) refl (own-seen s member table events whole.1)
     (own-seen s member (table_at s events).latest events whole.1)
   where
-    by : (b : Bool) → bytes_eq member e.member ≡ b → own_entries table member (past_of s events) ≡ own_from table (own_sights s events member)
+    by : (b : Bool) → bytes_eq member e.member ≡ b → own_entries table member (past_of s events) ≡ own_from table
+        (own_sights s events member)
         → own_entries (table_at s events).latest member (past_of s events)
         ≡ own_from (table_at s events).latest (own_sights s events member)
         → own_entries table member (past_of s (Call e ∷ events))

@@ -1,5 +1,6 @@
 -- Which state of a run does the program hold, and for which does what is outside stand?
-use Rattle.std.specs.Prelude.{◌≡◌, ℕ, Bool, List, Some, slice_get}
+use Rattle.std.specs.Prelude.{◌≡◌, ℕ, Bool, IsTrue, List, Some, slice_get}
+use Rattle.hb_io.specs.Causes.{Rose}
 use Rattle.hb_club.specs.Fronts.{Fronts, House}
 use Rattle.hb_house.specs.KeeperSteps.{IsSure, Telling}
 use Rattle.hb_talk.specs.Scripts.{session_of}
@@ -44,6 +45,13 @@ pub record EndsAt (Stands : Fronts → Type 0) (Tells : Telling → Type 0) (fai
     (s : RunState) : Type 0 where
   pub outside : StandsAt Stands Tells s
   pub answer : failed ≡ s.faulted
+
+-- the run stopped: what is outside stands for the state, and the keeper's count of faults rose if
+-- the keeper met one
+pub record StopsAt (Stands : Fronts → Type 0) (Tells : Telling → Type 0) (before now : ℕ)
+    (s : RunState) : Type 0 where
+  pub outside : StandsAt Stands Tells s
+  pub fault : IsTrue s.faulted → Rose before now
 
 -- what a call does, from each state at which the run may have been before it; a content that the
 -- keeper told can be relied on

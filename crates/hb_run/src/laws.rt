@@ -11,10 +11,11 @@ pub fn runs_join()
 {}
 
 /// A law, with no work to do: over a hall that nobody else calls, with a keeper that tells what it
-/// contains and which of its calls fail, lines that are run write the text that `script_text` says,
-/// and leave the lists, the keeper and the sessions as `stage_after` says. If the keeper answered
-/// that a key is kept with another game, or that its ids are used up, then the text of the lines
-/// before is the whole text of the script; and the text of the first lines is always a front of it.
+/// contains, and either which of its calls fail or that none did, lines that are run write the text
+/// that `script_text` says, and leave the lists, the keeper and the sessions as `stage_after` says.
+/// If the keeper answered that a key is kept with another game, or that its ids are used up, then
+/// the text of the lines before is the whole text of the script. The text of the first lines is
+/// always a front of the text of all.
 pub fn lone_scripts()
     ensures runs { LoneRuns }
     ensures ends { LoneEnds }

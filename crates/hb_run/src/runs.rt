@@ -5,7 +5,7 @@ ghost use Rattle.hb_club.specs.Fronts.{Fronts, House};
 ghost use Rattle.hb_house.specs.ClerkRounds.{AtEach};
 ghost use Rattle.hb_house.specs.KeeperSteps.{Telling, Tells};
 ghost use Rattle.hb_io.specs.Causes.{Rose};
-ghost use Rattle.hb_run.specs.HeldRuns.{EndsAt, FromEach, Holds, IsAt, StandsAt, has_failed};
+ghost use Rattle.hb_run.specs.HeldRuns.{EndsAt, FromEach, Holds, IsAt, StopsAt, has_failed};
 ghost use Rattle.hb_run.specs.RunLines.{first_state};
 ghost use Rattle.hb_run.specs.ScriptRuns.{HasConn, RunsAll, RunsSome};
 
@@ -44,12 +44,13 @@ impl ScriptRun {
     ///
     /// What a connection says is a turn of its session, and what it is sent is written at once. A
     /// line of the clerk is one call of the clerk, whose report is written; if the keeper meets a
-    /// fault, then that is written, and the run goes on.
+    /// fault, that is written instead, and the run goes on.
     ///
     /// It stops at the first line that has another error: [`RunEnd::WriteFault`] only if the sink's
     /// count of faults rose, [`RunEnd::KeyDiffers`] and [`RunEnd::UsedUp`] as the keeper answered
-    /// the clerk, and [`RunEnd::Worn`] only if the mark of a room, or of the lobby, is set. What was
-    /// written then is what the lines before wrote, or a front of it.
+    /// the clerk, and [`RunEnd::Worn`] only if the mark of a room, or of the lobby, is set. What
+    /// was written then is what the lines before wrote; if the sink failed or memory ran out, it
+    /// may be a front of that.
     pub fn run<H: Hall, K: Keeper, O: Sink>(
         &mut self,
         alloc: Global,
@@ -114,8 +115,9 @@ pub fn run_script<H: Hall, K: Keeper, O: Sink>(
         (O.held out.old) (O.held out.new))) }
     ensures err { IfErr result (λ why. AtEach (H.stands hall.old)
         (Tells (K.tells keeper.old) (K.plan keeper.old)) (K.is_sure keeper.new)
-        (λ f c. RunsSome (StandsAt (H.stands hall.new)
-        (Tells (K.tells keeper.new) (K.plan keeper.new)))
+        (λ f c. RunsSome (StopsAt (H.stands hall.new)
+        (Tells (K.tells keeper.new) (K.plan keeper.new)) (K.faults keeper.old)
+        (K.faults keeper.new))
         (H.house hall.old) (H.count hall.old) (H.alone hall.old) lines.now (first_state f c)
         (O.held out.old) (O.held out.new) why)) }
     ensures sure { K.is_sure keeper.new → K.is_sure keeper.old }

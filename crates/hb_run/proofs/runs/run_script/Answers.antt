@@ -1,4 +1,5 @@
-use Rattle.std.proofs.Common.{rules, ◌≡◌, refl, ◌∙◌, None, inl, inr, IsTrue, subst, false}
+use Rattle.std.proofs.Common.{rules, ◌≡◌, refl, ◌∙◌, None, inl, inr, IsTrue, subst, false, sym}
+use Rattle.std.proofs.lemmas.Bool.{true≢false}
 use Rattle.hb_club.specs.Fronts.{no_events}
 use Rattle.hb_run.specs.RunLines.{first_state}
 use Rattle.hb_run.proofs.RunsLemmas.{left-all, left-some, nothing-run, only-then}
@@ -6,7 +7,10 @@ use Rattle.hb_run.proofs.runs.run_script.Goals as goal
 
 pub returns-in_default-clause-err : goal.returns-in_default-clause-err
 returns-in_default-clause-err g c = λ f k stood told sure.
-    nothing-run _ _ _ _ c.args.lines.now _ _ (record { stands_for = stood; told = told })
+    nothing-run _ _ _ _ c.args.lines.now _ _ (record {
+      outside = record { stands_for = stood; told = told };
+      fault = λ met. absurd (true≢false (sym met));
+    })
 
 pub returns-in-Ok-run-clause-ok : goal.returns-in-Ok-run-clause-ok
 returns-in-Ok-run-clause-ok g c = λ f k stood told sure.
@@ -22,6 +26,10 @@ returns-in-Ok-run-clause-fault g c = λ failed.
 
 pub returns-clause-err : goal.returns-clause-err
 returns-clause-err g c = λ f k stood told sure.
-    left-some _ _ _ _ _ c.args.lines.now (first_state f k) _ _ _ (λ s at. at.outside)
-    (c.in-Err.ensures.err (first_state f k)
-    (record { outside = record { stands_for = stood; told = told }; inside = c.in-Ok.ensures (g.H.Hall.house c.args.hall.now) f k }) sure)
+    let new = c.in-Ok.ensures (g.H.Hall.house c.args.hall.now) f k in
+    left-some _ _ _ _ _ c.args.lines.now (first_state f k) _ _ _
+    (λ s at. record {
+      outside = at.outside;
+      fault = λ met. only-then _ _ new.faulted (c.run.ensures.fault (subst IsTrue (sym at.inside.faulted) met));
+    })
+    (c.in-Err.ensures.err (first_state f k) (record { outside = record { stands_for = stood; told = told }; inside = new }) sure)

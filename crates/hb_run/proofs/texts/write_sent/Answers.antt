@@ -12,7 +12,8 @@ returns-in-Err-clause-err g c =
     let h = c.in-Err.ensures.err in
     let same = c.as_str.ensures.value ∙ c.in-Ok.ensures ∙ ap (sent_line c.args.conn) c.text-item.is in (
       h.0,
-      sent-cut _ _ _ c.args.conn c.loop-text.text-index c.args.texts.now c.text-item.result c.loop-text-test.true c.loop-text.invariant.written
+      sent-cut _ _ _ c.args.conn c.loop-text.text-index c.args.texts.now c.text-item.result c.loop-text-test.true
+          c.loop-text.invariant.written
           (subst (AppendsFront (g.O.Sink.held c.loop-text.out) (g.O.Sink.held c.write.new.out)) same h.1),
     )
 
@@ -20,7 +21,8 @@ pub loop-text-preserved : goal.loop-text-preserved
 loop-text-preserved g c =
     let same = c.as_str.ensures.value ∙ c.in-Ok.ensures ∙ ap (sent_line c.args.conn) c.text-item.is in
     record {
-      written = rw add-one (sent-more _ _ _ c.args.conn c.loop-text.text-index c.args.texts.now c.text-item.result c.loop-text-test.true c.loop-text.invariant.written
+      written = rw add-one (sent-more _ _ _ c.args.conn c.loop-text.text-index c.args.texts.now c.text-item.result c.loop-text-test.true
+          c.loop-text.invariant.written
           (subst (Appends (g.O.Sink.held c.loop-text.out) (g.O.Sink.held c.write.new.out)) same c.in-Ok-write.ensures.ok));
       kept = search rules;
     }

@@ -12,10 +12,14 @@ returns-in-Err-clause-err g c = λ s at sure.
     let first = c.args.hall.now in
     let i = c.loop-line.invariant in
     let line = rw (i.house, i.count, i.alone) at c.in-Err.ensures.err in
-    let p = i.runs s at (sure_before s.keeper (K.is_sure c.run_line.new.keeper) (K.is_sure c.loop-line.keeper) c.run_line.ensures.sure sure) in
-    let still = runs-sure (K.is_sure c.run_line.new.keeper) (H.house first) (H.count first) (H.alone first) _ s p.state p.text p.runs sure in
-    let is = slice_get_read c.args.lines.now (length c.args.lines.now) c.loop-line.line-index c.line-item.result refl c.loop-line-test.true c.line-item.is in
-    stops-more _ _ (H.house first) (H.count first) (H.alone first) c.args.lines.now c.loop-line.line-index c.line-item.result s c.in-Err.e _ _ _
+    let p = i.runs s at (sure_before s.keeper (K.is_sure c.run_line.new.keeper)
+    (K.is_sure c.loop-line.keeper) c.run_line.ensures.sure sure) in
+    let still = runs-sure (K.is_sure c.run_line.new.keeper) (H.house first) (H.count first)
+    (H.alone first) _ s p.state p.text p.runs sure in
+    let is = slice_get_read c.args.lines.now (length c.args.lines.now) c.loop-line.line-index c.line-item.result refl
+    c.loop-line-test.true c.line-item.is in
+    stops-more _ _ (H.house first) (H.count first) (H.alone first) c.args.lines.now c.loop-line.line-index c.line-item.result s
+    c.in-Err.e _ _ _
     is p (line p.state p.left still)
 
 pub loop-line-preserved : goal.loop-line-preserved
@@ -27,9 +31,12 @@ loop-line-preserved g c =
     record {
       runs = λ s at sure.
           let line = rw (i.house, i.count, i.alone) at c.in-Ok.ensures.ok in
-          let p = i.runs s at (sure_before s.keeper (K.is_sure c.run_line.new.keeper) (K.is_sure c.loop-line.keeper) c.run_line.ensures.sure sure) in
-          let still = runs-sure (K.is_sure c.run_line.new.keeper) (H.house first) (H.count first) (H.alone first) _ s p.state p.text p.runs sure in
-          let is = slice_get_read c.args.lines.now (length c.args.lines.now) c.loop-line.line-index c.line-item.result refl c.loop-line-test.true c.line-item.is in
+          let p = i.runs s at (sure_before s.keeper (K.is_sure c.run_line.new.keeper)
+          (K.is_sure c.loop-line.keeper) c.run_line.ensures.sure sure) in
+          let still = runs-sure (K.is_sure c.run_line.new.keeper) (H.house first) (H.count first)
+          (H.alone first) _ s p.state p.text p.runs sure in
+          let is = slice_get_read c.args.lines.now (length c.args.lines.now) c.loop-line.line-index c.line-item.result refl
+          c.loop-line-test.true c.line-item.is in
           rw add-one (line-more _ _ (H.house first) (H.count first) (H.alone first) c.args.lines.now c.loop-line.line-index
           c.line-item.result s _ _ _ is p (line p.state p.left still));
       sure = search rules;
@@ -43,4 +50,5 @@ loop-line-preserved g c =
 
 pub returns-clause-ok : goal.returns-clause-ok
 returns-clause-ok g c = λ s at sure.
-    whole _ _ _ _ c.args.lines.now c.loop-line.line-index s _ _ (omega (arith, c.loop-line-test.false, c.loop-line.auto.line-index-end)) (c.loop-line.invariant.runs s at sure)
+    whole _ _ _ _ c.args.lines.now c.loop-line.line-index s _ _ (omega (arith, c.loop-line-test.false, c.loop-line.auto.line-index-end))
+    (c.loop-line.invariant.runs s at sure)

@@ -11,7 +11,8 @@ returns-in-Ok-clause-ok g c = on_ok c.write_sent.result (λ wrote s at.
     let was = slice_get_read desks (length desks) c.args.conn c.index_mut.result.now refl within c.index_mut.ensures.value in
     said g.H.Hall.stands _ _ _ c.turn.new.hall s c.args.moment c.args.conn c.args.got.now c.turn.new.texts c.index_mut.result.now
     c.turn.new.self _ _ _ _ at.inside was refl refl
-    (rw c.new-texts.ensures at (c.in-Ok.ensures.ok s.fronts at.outside.stands_for (at.inside.desks c.args.conn c.index_mut.result.now was).fits))
+    (rw c.new-texts.ensures at (c.in-Ok.ensures.ok s.fronts at.outside.stands_for
+    (at.inside.desks c.args.conn c.index_mut.result.now was).fits))
     (rw c.as_slice.ensures at wrote)) c.write_sent.ensures.ok
 
 pub returns-in-Ok-clause-err : goal.returns-in-Ok-clause-err
@@ -21,7 +22,8 @@ returns-in-Ok-clause-err g c = if_err c.write_sent.result (λ why cut s at.
     let was = slice_get_read desks (length desks) c.args.conn c.index_mut.result.now refl within c.index_mut.ensures.value in
     said-cut g.H.Hall.stands _ _ _ c.turn.new.hall s c.args.moment c.args.conn c.args.got.now c.turn.new.texts c.index_mut.result.now
     c.turn.new.self _ _ _ _ why at.inside was refl refl
-    (rw c.new-texts.ensures at (c.in-Ok.ensures.ok s.fronts at.outside.stands_for (at.inside.desks c.args.conn c.index_mut.result.now was).fits))
+    (rw c.new-texts.ensures at (c.in-Ok.ensures.ok s.fronts at.outside.stands_for
+    (at.inside.desks c.args.conn c.index_mut.result.now was).fits))
     (rw c.as_slice.ensures at cut)) c.write_sent.ensures.err
 
 pub returns-in-Err-Worn-clause-err : goal.returns-in-Err-Worn-clause-err
