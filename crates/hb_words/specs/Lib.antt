@@ -1,6 +1,0 @@
-pub mod PlainWords
-pub mod Commands
-pub mod Interface
-pub mod PartsOf
-pub mod Stores
-pub mod Unpadded
