@@ -1,9 +1,15 @@
-//! What does the program run on? The words of its command line, and the real input and outputs.
-//! All that it does with them is [`hb_cli::run`].
+//! What does the program run on? The words of its command line, the real input and outputs, and the
+//! keeper of the store that the words name. All that it does with them is [`hb_cli::run`].
 #![tactic(auto)]
 
+mod stores;
+
+use crate::stores::refused;
 use hb_cli::{Status, report_no_memory, run};
 use hb_io::{StdSink, StdSource};
+use hb_keeper::{Fails, Keeper, KeeperMemory};
+use hb_sqlite::KeeperSql;
+use hb_words::{Store, command};
 use std::alloc::AllocError;
 use std::env;
 use std::io::ErrorKind;
@@ -33,8 +39,37 @@ fn executed(rt: &HostRuntime) -> Result<Status, AllocError> {
     for word in &arguments {
         words.push(word.as_str())?;
     }
+    match command(rt.alloc(), &words)? {
+        Some(command) => match command.store() {
+            Some(Store::File(path)) => Ok(over_file(rt, &words, path)),
+            Some(Store::Memory) | None => over_memory(rt, &words),
+        },
+        None => over_memory(rt, &words),
+    }
+}
+
+/// Runs over a keeper in memory, without games and with no call that fails.
+fn over_memory(rt: &HostRuntime, words: &[&str]) -> Result<Status, AllocError> {
+    let mut keeper = KeeperMemory::new(rt.alloc(), 0, Fails::new(rt.alloc()))?;
+    Ok(over(rt, words, &mut keeper))
+}
+
+/// Runs over the store in the file of a path, which is closed at the end. A close that fails loses
+/// nothing: the store's log stays, and the next opening reads it.
+fn over_file(rt: &HostRuntime, words: &[&str], path: &str) -> Status {
+    match KeeperSql::open_file(rt, rt.alloc(), path) {
+        Ok(mut keeper) => {
+            let status = over(rt, words, &mut keeper);
+            let _ = keeper.close();
+            status
+        }
+        Err(error) => refused(rt, error),
+    }
+}
+
+fn over<K: Keeper>(rt: &HostRuntime, words: &[&str], keeper: &mut K) -> Status {
     let mut source = StdSource::new(rt.stdin());
     let mut out = StdSink::new(rt.stdout());
     let mut err = StdSink::new(rt.stderr());
-    Ok(run(rt.alloc(), &words, &mut source, &mut out, &mut err))
+    run(rt.alloc(), words, &mut source, &mut out, &mut err, keeper)
 }

@@ -2,7 +2,7 @@
 use Rattle.std.proofs.Common.{◌≡◌, ℕ, List, ap}
 use Rattle.hb_rules.specs.Observed.{Observed}
 use Rattle.hb_game_lines.specs.Standing.{standing_text}
-use Rattle.hb_cli.specs.declared.commands.Command.TheVariants.{Watch, Look, Check, Copy}
+use Rattle.hb_words.specs.declared.commands.ReplayCommand.TheVariants.{Watch, Look, Check, Copy}
 use Rattle.hb_cli.specs.Alike.{AlikeIsWrittenAlike}
 use Rattle.hb_cli.specs.Outputs.{output, watch_text}
 

@@ -4,17 +4,18 @@ use Rattle.std.specs.Prelude.{IfErr, IfOk, IfSome, IsFalse, IsTrue, Result}
 use Rattle.std.specs.declared.result.Result.TheVariants.{Ok, Err}
 use Rattle.hb_replay.specs.Contents.{Contents}
 use Rattle.hb_replay.specs.ReplayReading.{IsReading}
-use Rattle.hb_cli.specs.declared.answers.TheConstants.{MOST_INPUT}
-use Rattle.hb_cli.specs.declared.commands.Command.{Command}
+use Rattle.hb_cli.specs.declared.replays.TheConstants.{MOST_INPUT}
+use Rattle.hb_words.specs.declared.commands.ReplayCommand.{ReplayCommand}
 use Rattle.hb_cli.specs.declared.status.Stop.{Stop}
 use Rattle.hb_cli.specs.declared.status.Stop.TheVariants as stop
 use Rattle.hb_cli.specs.Asked.{Asked, IsRead, IsStop, IsText}
-use Rattle.hb_cli.specs.Commands.{IsCommand}
+use Rattle.hb_words.specs.Commands.{IsCommand}
+use Rattle.hb_words.specs.declared.commands.Command.TheVariants.{Replay}
 use Rattle.hb_cli.specs.Outputs.{has_view, output}
 
 -- what a command writes for the replay that is read is the text that is asked for
-pub IsText-output : (a : Asked) (command : Command) (bytes : List ℕ) (r : Contents) (out : Result (List ℕ) Stop)
-    → IsCommand a.words command → IfSome a.told (λ told. bytes ≡ told) → length bytes ≤ MOST_INPUT → IsReading bytes (Ok r)
+pub IsText-output : (a : Asked) (command : ReplayCommand) (bytes : List ℕ) (r : Contents) (out : Result (List ℕ) Stop)
+    → IsCommand a.words (Replay command) → IfSome a.told (λ told. bytes ≡ told) → length bytes ≤ MOST_INPUT → IsReading bytes (Ok r)
     → IfOk out (λ text. IsTrue (has_view command r.game) × (text ≡ output command r)) → IfOk out (IsText a)
 IsText-output a command bytes r (Err why) is told short reading says = tt
 IsText-output a command bytes r (Ok text) is told short reading says = (command, is, pick a.told told)
@@ -25,8 +26,8 @@ IsText-output a command bytes r (Ok text) is told short reading says = (command,
     pick (Some told) same = (r, subst (λ b. IsRead b (Ok r)) same (short, reading), says.0, says.1)
 
 -- why a command writes nothing for the replay that is read is why there is no text
-pub IsStop-output : (a : Asked) (command : Command) (bytes : List ℕ) (r : Contents) (out : Result (List ℕ) Stop)
-    → IsCommand a.words command → IfSome a.told (λ told. bytes ≡ told) → length bytes ≤ MOST_INPUT → IsReading bytes (Ok r)
+pub IsStop-output : (a : Asked) (command : ReplayCommand) (bytes : List ℕ) (r : Contents) (out : Result (List ℕ) Stop)
+    → IsCommand a.words (Replay command) → IfSome a.told (λ told. bytes ≡ told) → length bytes ≤ MOST_INPUT → IsReading bytes (Ok r)
     → IfErr out (λ why. (why ≡ stop.NoMemory) ⊎ ((why ≡ stop.NoSuchView) × IsFalse (has_view command r.game)))
     → IfErr out (IsStop a)
 IsStop-output a command bytes r (Ok text) is told short reading says = tt

@@ -1,8 +1,8 @@
 -- Which replays look alike to the seat of a command? They are written alike.
 use Rattle.std.specs.Prelude.{◌≡◌, ℕ}
 use Rattle.hb_replay.specs.Contents.{Contents}
-use Rattle.hb_cli.specs.declared.commands.Command.{Command}
-use Rattle.hb_cli.specs.declared.commands.Command.TheVariants.{Watch, Look, Check, Copy}
+use Rattle.hb_words.specs.declared.commands.ReplayCommand.{ReplayCommand}
+use Rattle.hb_words.specs.declared.commands.ReplayCommand.TheVariants.{Watch, Look, Check, Copy}
 use Rattle.hb_cli.specs.Outputs.{after_first, output, seen_by}
 
 -- two replays with the same names and the same game as the seat has observed it
@@ -13,7 +13,7 @@ pub record AreSeenAlike (seat : ℕ) (r s : Contents) : Type 0 where
 
 -- two replays that differ in nothing that the command's seat may see; the commands without a seat
 -- show a whole replay
-abbrev pub AreAlike : Command → Contents → Contents → Type 0
+abbrev pub AreAlike : ReplayCommand → Contents → Contents → Type 0
 AreAlike (Watch seat) r s = AreSeenAlike seat r s
 AreAlike (Look seat turn) r s =
     seen_by seat (after_first turn r.game) ≡ seen_by seat (after_first turn s.game)
@@ -22,5 +22,5 @@ AreAlike Copy r s = r ≡ s
 
 -- such replays are written alike
 abbrev pub AlikeIsWrittenAlike : Type 0
-AlikeIsWrittenAlike = (command : Command) (r s : Contents) → AreAlike command r s
+AlikeIsWrittenAlike = (command : ReplayCommand) (r s : Contents) → AreAlike command r s
     → output command r ≡ output command s

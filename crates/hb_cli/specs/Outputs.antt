@@ -8,8 +8,8 @@ use Rattle.hb_replay.specs.Canonical.{canonical_text}
 use Rattle.hb_replay.specs.Contents.{Contents}
 use Rattle.hb_wire.specs.Lines.{event_lines, game_line}
 use Rattle.hb_game_lines.specs.Standing.{standing_text}
-use Rattle.hb_cli.specs.declared.commands.Command.{Command}
-use Rattle.hb_cli.specs.declared.commands.Command.TheVariants.{Watch, Look, Check, Copy}
+use Rattle.hb_words.specs.declared.commands.ReplayCommand.{ReplayCommand}
+use Rattle.hb_words.specs.declared.commands.ReplayCommand.TheVariants.{Watch, Look, Check, Copy}
 
 -- the blind set of one seat
 abbrev pub only : ℕ → ℕ
@@ -35,7 +35,7 @@ check_text p = codes "ok " ++ decimal p.setup.players ++ codes " " ++ decimal (l
     ++ codes "\n"
 
 -- the game has the view that a command asks for: the seat, and as many acts
-abbrev pub has_view : Command → Position → Bool
+abbrev pub has_view : ReplayCommand → Position → Bool
 has_view (Watch seat) p = nat_lt seat p.setup.players
 has_view (Look seat turn) p = nat_lt seat p.setup.players && nat_le turn (length p.past)
 has_view Check p = true
@@ -43,7 +43,7 @@ has_view Copy p = true
 
 -- the text that a command writes for a replay: for `watch` and `look` a function of what the seat
 -- has observed, and of no deck
-abbrev pub output : Command → Contents → List ℕ
+abbrev pub output : ReplayCommand → Contents → List ℕ
 output (Watch seat) r = watch_text r.name r.players (seen_by seat r.game)
 output (Look seat turn) r = standing_text (seen_by seat (after_first turn r.game))
 output Check r = check_text r.game

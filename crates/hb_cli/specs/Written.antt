@@ -3,9 +3,10 @@ use Rattle.std.specs.Prelude.{◌≡◌, ℕ, ◌<◌, ◌⊎◌, List, Option, 
 use Rattle.std.specs.Io.KnownBytes.{Appends}
 use Rattle.hb_io.specs.Causes.{Rose}
 use Rattle.hb_cli.specs.declared.status.Status.{Status}
+use Rattle.hb_cli.specs.declared.status.Status.TheVariants as status
 use Rattle.hb_cli.specs.declared.status.Stop.{Stop}
-use Rattle.hb_cli.specs.Asked.{Asked, IsStop, IsText}
-use Rattle.hb_cli.specs.Statuses.{line_of, status_of, write_fault_line}
+use Rattle.hb_cli.specs.declared.status.Stop.TheVariants as stop
+use Rattle.hb_cli.specs.Statuses.{line_of, status_of}
 
 -- what a sink tells before a run and after it: the bytes that it holds, and how many of its calls
 -- failed
@@ -32,21 +33,13 @@ abbrev pub FailsIn : Sent → List ℕ → Type 0
 FailsIn s text = (count : ℕ) × (count < length text)
     × Appends s.held_before s.held (take count text) × Rose s.faults_before s.faults
 
--- the whole text that is asked for was written
-abbrev pub WritesText : Asked → Sent → Type 0
-WritesText a out = (text : List ℕ) × IsText a text × Writes out text
+-- the line of a cause was written, with the cause's status; or, as there was no memory for it, the
+-- line and the status of that
+abbrev pub SaysLine : Sent → Status → Stop → Type 0
+SaysLine err result why = ((status_of why ≡ result) × Writes err (line_of why))
+    ⊎ ((result ≡ status.NoMemory) × Writes err (line_of stop.NoMemory))
 
--- a cause holds that has this status, and its line was written
-abbrev pub SaysStop : Asked → Sent → Status → Type 0
-SaysStop a err status =
-    (why : Stop) × (status_of why ≡ status) × IsStop a why × Writes err (line_of why)
-
--- a cause holds, and the error output failed in its line
-abbrev pub FailsInStop : Asked → Sent → Type 0
-FailsInStop a err = (why : Stop) × IsStop a why × FailsIn err (line_of why)
-
--- the output failed in the text that is asked for, and the line that says so was written, or the
--- error output failed in it as well
-abbrev pub FailsInText : Asked → Sent → Sent → Type 0
-FailsInText a out err = ((text : List ℕ) × IsText a text × FailsIn out text)
-    × (Writes err write_fault_line ⊎ FailsIn err write_fault_line)
+-- the error output failed in the line of a cause, or in the one that says that there was no memory
+-- for it
+abbrev pub FailsLine : Sent → Stop → Type 0
+FailsLine err why = FailsIn err (line_of why) ⊎ FailsIn err (line_of stop.NoMemory)

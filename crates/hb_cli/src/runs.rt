@@ -1,58 +1,95 @@
-//! What does the program do with its words, its input and its two outputs?
+//! What does the program do with its words, its input, its two outputs and its keeper?
 
-ghost use Rattle.std.specs.Prelude.{◌≡◌, ◌⊎◌};
+ghost use Rattle.std.specs.Prelude.{◌≡◌, ◌⊎◌, ⊤, false};
 ghost use Rattle.std.specs.Io.KnownBytes.{IsAtEnd};
 ghost use Rattle.hb_io.specs.Causes.{Rose};
-ghost use Rattle.hb_cli.specs.Asked.{asked};
-ghost use Rattle.hb_cli.specs.Statuses.{IsRefused};
-ghost use Rattle.hb_cli.specs.Written.{sent, FailsInStop, FailsInText, SaysStop, WritesText};
+ghost use Rattle.hb_house.specs.KeeperSteps.{Tells};
+ghost use Rattle.hb_cli.specs.declared.status.Stop.{Stop as Cause};
+ghost use Rattle.hb_cli.specs.declared.status.Stop.TheVariants as stop_is;
+ghost use Rattle.hb_cli.specs.Asked.{AsksNoGames, AsksNoScript, AsksToRead, ReadsNothing, asked};
+ghost use Rattle.hb_cli.specs.Statuses.{HasRead, IsRefused, IsSilent, line_of};
+ghost use Rattle.hb_cli.specs.Works.{FailsOut, Stops, Works};
+ghost use Rattle.hb_cli.specs.Written.{sent, FailsIn, FailsLine, SaysLine, Writes};
 
-use crate::answers::answer;
-use crate::reports::{report, report_write_fault};
-use crate::status::Status;
-use hb_io::{Sink, Source, write_all};
+use crate::reports::report;
+use crate::status::{Status, Stop};
+use crate::works::work;
+use hb_io::{Sink, Source};
+use hb_keeper::Keeper;
 use std::alloc::Global;
 
-/// Does what the words ask for: reads the source to its end, and writes the whole text to `out`, or
-/// one line to `err` that says why there is none, or the usage.
+/// Does what the words ask for. A command that reads reads the source to its end. What is asked for
+/// is written to `out`, and one line to `err` that says why it is not, or the usage.
 ///
-/// Words are those of the command line without the program's name. If a source or a sink does not
-/// tell its bytes, the clauses say nothing of these; what they say of words, causes and counts of
-/// faults holds of any. `NoMemory` alone may come at any time.
-pub fn run<S: Source, O: Sink, E: Sink>(
+/// Words are those of the command line without the program's name, and the keeper is that of the
+/// store that they name. If a source or a sink does not tell its bytes, or a keeper its content,
+/// the clauses say nothing of these; what they say of words, causes and counts of faults holds of
+/// any. `NoMemory` alone may come at any time.
+pub fn run<S: Source, O: Sink, E: Sink, K: Keeper>(
     alloc: Global,
     words: &[&str],
     source: &mut S,
     out: &mut O,
     err: &mut E,
+    keeper: &mut K,
 ) -> Status
-    // Ok: the whole text is written, the input is read to its end, and nothing is said.
-    ensures ok { result ≡ Status.Ok
-        → WritesText (asked words.now (S.left source.old)) (sent O.held O.faults out.old out.new) }
-    ensures end { result ≡ Status.Ok → IsAtEnd (S.left source.new) }
+    // Ok: the work is done, and nothing is said.
+    ensures ok { result ≡ Status.Ok → Works (asked words.now (S.left source.old))
+        (Tells (K.tells keeper.old) (K.plan keeper.old))
+        (Tells (K.tells keeper.new) (K.plan keeper.new)) (K.is_sure keeper.new) false
+        (sent O.held O.faults out.old out.new) }
     ensures quiet { result ≡ Status.Ok → err.new ≡ err.old }
 
-    // Any other status except `WriteFault`: its cause holds, the line of the cause is written to
-    // `err`, and nothing to `out`. At `Usage` nothing is read. At `ReadFault` the source failed.
-    ensures stop { IsRefused result → SaysStop
-        (asked words.now (S.left source.old)) (sent E.held E.faults err.old err.new) result }
-    ensures kept { IsRefused result → out.new ≡ out.old }
+    // Any other status except `WriteFault`: its cause holds, what was done by then is so, and the
+    // line of the cause is written to `err`. At those before the work begins nothing is written to
+    // `out` and the keeper is not called; except of a script, nothing is written at any of them.
+    // At `Usage` nothing is read.
+    ensures stop { IsRefused result
+        → (why : Cause) × Stops (asked words.now (S.left source.old))
+        (Tells (K.tells keeper.old) (K.plan keeper.old))
+        (Tells (K.tells keeper.new) (K.plan keeper.new)) (K.is_sure keeper.new)
+        (sent O.held O.faults out.old out.new) why
+        × SaysLine (sent E.held E.faults err.old err.new) result why }
+    ensures kept { IsSilent result → out.new ≡ out.old }
+    ensures no_call { IsSilent result → keeper.new ≡ keeper.old }
+    ensures no_output { IsRefused result → AsksNoScript (asked words.now (S.left source.old))
+        → out.new ≡ out.old }
     ensures unread { result ≡ Status.Usage → source.new ≡ source.old }
     ensures read_fault { result ≡ Status.ReadFault
         → Rose (S.faults source.old) (S.faults source.new) }
+    ensures keeper_fault { result ≡ Status.KeeperFault
+        → Rose (K.faults keeper.old) (K.faults keeper.new) }
 
-    // `WriteFault`: one of the sinks failed, and holds a front of what was to be written to it.
+    // `WriteFault`: `out` failed, and the line that says so is written to `err`, or `err` failed in
+    // it as well; or `err` failed in the line of another cause.
     ensures write_fault { result ≡ Status.WriteFault
-        → FailsInText (asked words.now (S.left source.old))
-        (sent O.held O.faults out.old out.new) (sent E.held E.faults err.old err.new)
-        ⊎ ((out.new ≡ out.old) × FailsInStop
-        (asked words.now (S.left source.old)) (sent E.held E.faults err.old err.new)) }
+        → (FailsOut (asked words.now (S.left source.old))
+        (Tells (K.tells keeper.old) (K.plan keeper.old))
+        (Tells (K.tells keeper.new) (K.plan keeper.new)) (K.is_sure keeper.new)
+        (sent O.held O.faults out.old out.new)
+        × Rose (O.faults out.old) (O.faults out.new)
+        × (Writes (sent E.held E.faults err.old err.new) (line_of stop_is.WriteFault)
+        ⊎ FailsIn (sent E.held E.faults err.old err.new) (line_of stop_is.WriteFault)))
+        ⊎ ((why : Cause) × Stops (asked words.now (S.left source.old))
+        (Tells (K.tells keeper.old) (K.plan keeper.old))
+        (Tells (K.tells keeper.new) (K.plan keeper.new)) (K.is_sure keeper.new)
+        (sent O.held O.faults out.old out.new) why
+        × FailsLine (sent E.held E.faults err.old err.new) why
+        × (AsksNoScript (asked words.now (S.left source.old)) → out.new ≡ out.old)) }
+
+    // At any status: what is read, and which keeper is called.
+    ensures end { HasRead result
+        → AsksToRead (asked words.now (S.left source.old)) (λ bytes. ⊤)
+        → IsAtEnd (S.left source.new) }
+    ensures reads_nothing { ReadsNothing (asked words.now (S.left source.old))
+        → source.new ≡ source.old }
+    ensures keeper { AsksNoScript (asked words.now (S.left source.old))
+        → AsksNoGames (asked words.now (S.left source.old)) → keeper.new ≡ keeper.old }
+    ensures sure { K.is_sure keeper.new → K.is_sure keeper.old }
 {
-    match answer(alloc, words, source) {
-        Ok(text) => match write_all(out, text.as_slice()) {
-            Ok(()) => Status::Ok,
-            Err(_) => report_write_fault(err),
-        },
+    match work(alloc, words, source, out, keeper) {
+        Ok(false) => Status::Ok,
+        Ok(true) => report(alloc, err, &Stop::KeeperFault),
         Err(stop) => report(alloc, err, &stop),
     }
 }

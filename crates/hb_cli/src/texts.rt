@@ -5,7 +5,6 @@ ghost use Rattle.hb_replay.specs.Canonical.{canonical_text};
 ghost use Rattle.hb_cli.specs.Outputs.{after_first, check_text as text_of_check, has_view as has_view_of, only as only_of, output as output_of, seen_by, watch_text as text_of_watch};
 ghost use Rattle.hb_game_lines.specs.Standing.{standing_text};
 
-use crate::commands::Command;
 use crate::status::Stop;
 use hb_game_lines::{push_events, push_game, push_standing};
 use hb_io::{Bytes, Text};
@@ -13,6 +12,7 @@ use hb_replay::{Replay, write};
 use hb_rules::{EndHow, MOST_PLAYERS};
 use hb_sight::Blind;
 use hb_turns::Game;
+use hb_words::ReplayCommand;
 use std::alloc::{AllocError, Global};
 
 /// The blind set of one seat.
@@ -24,15 +24,15 @@ fn only(seat: u8) -> Blind
 }
 
 /// The game has the seat and the acts that the command asks for.
-fn has_view(command: Command, game: &Game) -> bool
+fn has_view(command: ReplayCommand, game: &Game) -> bool
     ensures { result ≡ has_view_of command game.now }
 {
     match command {
-        Command::Watch { seat } => seat < game.players(),
-        Command::Look { seat, turn } => {
+        ReplayCommand::Watch { seat } => seat < game.players(),
+        ReplayCommand::Look { seat, turn } => {
             seat < game.players() && usize::from(turn) <= game.act_count()
         }
-        Command::Check | Command::Copy => true,
+        ReplayCommand::Check | ReplayCommand::Copy => true,
     }
 }
 
@@ -89,7 +89,7 @@ fn copy_text(alloc: Global, replay: &Replay) -> Result<Bytes, AllocError>
 }
 
 /// What a command writes for a replay, or that the replay has no such view.
-pub fn output(alloc: Global, command: Command, replay: &Replay) -> Result<Bytes, Stop>
+pub fn output(alloc: Global, command: ReplayCommand, replay: &Replay) -> Result<Bytes, Stop>
     ensures text { IfOk result (λ text.
         IsTrue (has_view_of command replay.now.game) × (text ≡ output_of command replay.now)) }
     ensures stop { IfErr result (λ why. (why ≡ Stop.NoMemory)
@@ -100,7 +100,7 @@ pub fn output(alloc: Global, command: Command, replay: &Replay) -> Result<Bytes,
         return Err(Stop::NoSuchView);
     }
     let text = match command {
-        Command::Watch { seat } => {
+        ReplayCommand::Watch { seat } => {
             let names = replay.players();
             watch_text(
                 alloc,
@@ -110,9 +110,9 @@ pub fn output(alloc: Global, command: Command, replay: &Replay) -> Result<Bytes,
                 seat,
             )?
         }
-        Command::Look { seat, turn } => look_text(alloc, &game, seat, turn)?,
-        Command::Check => check_text(alloc, &game)?,
-        Command::Copy => copy_text(alloc, replay)?,
+        ReplayCommand::Look { seat, turn } => look_text(alloc, &game, seat, turn)?,
+        ReplayCommand::Check => check_text(alloc, &game)?,
+        ReplayCommand::Copy => copy_text(alloc, replay)?,
     };
     Ok(text)
 }

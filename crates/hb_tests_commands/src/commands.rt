@@ -2,6 +2,7 @@
 
 use hb_cli::{Status, run};
 use hb_io::{SinkMemory, SourceMemory};
+use hb_keeper::{Fails, KeeperMemory};
 use std::alloc::{AllocError, Global};
 use std::test::Fail;
 
@@ -52,8 +53,9 @@ fn each_command_writes_its_text(rt: HostRuntime) -> Result<(), Fail> {
         let mut source = SourceMemory::new(input.as_bytes().to_vec(alloc)?, 7, Vec::new(alloc));
         let mut out = SinkMemory::new(alloc, 5, Vec::new(alloc));
         let mut err = SinkMemory::new(alloc, 5, Vec::new(alloc));
+        let mut keeper = KeeperMemory::new(alloc, 0, Fails::new(alloc))?;
         assert_eq!(rt;
-            run(alloc, words, &mut source, &mut out, &mut err),
+            run(alloc, words, &mut source, &mut out, &mut err, &mut keeper),
             Status::Ok
         );
         let text = String::from_utf8(out.into_vec())?;
@@ -76,8 +78,16 @@ fn a_fault_leaves_a_front_and_has_its_line(rt: HostRuntime) -> Result<(), Fail> 
         let mut source = SourceMemory::new(bytes, 64, vec![in alloc; read_fails]?);
         let mut out = SinkMemory::new(alloc, 5, vec![in alloc; write_fails]?);
         let mut err = SinkMemory::new(alloc, 64, none.clone()?);
+        let mut keeper = KeeperMemory::new(alloc, 0, Fails::new(alloc))?;
         assert_eq!(rt;
-            run(alloc, &["watch", "0"], &mut source, &mut out, &mut err),
+            run(
+                alloc,
+                &["watch", "0"],
+                &mut source,
+                &mut out,
+                &mut err,
+                &mut keeper
+            ),
             status
         );
         assert_eq!(rt; out.into_vec().as_slice(), front.as_bytes());

@@ -1,0 +1,6 @@
+pub mod PlainWords
+pub mod Commands
+pub mod Interface
+pub mod PartsOf
+pub mod Stores
+pub mod Unpadded
