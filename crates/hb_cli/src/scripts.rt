@@ -4,7 +4,7 @@ ghost use Rattle.std.specs.Prelude.{◌≡◌, ℕ, ⊤, All, IfErr, IfOk, IsErr
 ghost use Rattle.std.specs.Io.KnownBytes.{IsAtEnd};
 ghost use Rattle.hb_io.specs.Causes.{Rose};
 ghost use Rattle.hb_house.specs.KeeperSteps.{Tells};
-ghost use Rattle.hb_script.specs.ScriptLines.{HasConn};
+ghost use Rattle.hb_talk.specs.Scripts.{HasConnection};
 ghost use Rattle.hb_words.specs.declared.commands.Command.TheVariants.{Script as asks_script};
 ghost use Rattle.hb_cli.specs.Asked.{Asked, AsksScript, IsScriptText, WithWords};
 ghost use Rattle.hb_cli.specs.Statuses.{HasRead, IsSilent, status_of, stop_of_run};
@@ -41,7 +41,7 @@ fn run_all<O: Sink, K: Keeper>(
     out: &mut O,
     keeper: &mut K,
 ) -> Result<bool, Stop>
-    requires { All HasConn script.now.lines }
+    requires { All HasConnection script.now.lines }
     ensures ok { (a : Asked) → AsksScript a (IsScriptText script.now)
         → IfOk result (λ faulted. OfScript a (Tells (K.tells keeper.old) (K.plan keeper.old))
         (K.is_sure keeper.new) (λ s. RanScript (Tells (K.tells keeper.new) (K.plan keeper.new))

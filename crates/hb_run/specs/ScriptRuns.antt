@@ -1,6 +1,6 @@
 -- What do the lines of a script do and write, one after the other, and what was done and written if
 -- a run stops? Lines stand in their order.
-use Rattle.std.specs.Prelude.{◌≡◌, ◌≤◌, ◌⊎◌, ℕ, Bool, ⊤, List, [], ◌∷◌, ◌++◌, Option, Some, length, slice_get, take}
+use Rattle.std.specs.Prelude.{◌≡◌, ◌≤◌, ◌⊎◌, ℕ, Bool, List, [], ◌∷◌, ◌++◌, Option, Some, length, slice_get, take}
 use Rattle.std.specs.Io.KnownBytes.{Appends}
 use Rattle.hb_io.specs.declared.got.Got.{Got}
 use Rattle.hb_club.specs.Fronts.{AllGoOn, House}
@@ -10,14 +10,8 @@ use Rattle.hb_talk.specs.declared.scripts.ScriptLine.{ScriptLine}
 use Rattle.hb_talk.specs.declared.scripts.ScriptLine.TheVariants as line
 use Rattle.hb_run.specs.declared.ends.RunEnd.{RunEnd}
 use Rattle.hb_run.specs.declared.ends.RunEnd.TheVariants.{KeyDiffers, NoMemory, UsedUp, WriteFault, Worn}
-use Rattle.hb_run.specs.declared.held.TheConstants.{MOST_CONN}
 use Rattle.hb_run.specs.RunLines.{ClerkHalts, LineRuns, RunState}
 use Rattle.hb_run.specs.WrittenFronts.{AppendsFront, IsWriteEnd}
-
--- the connection of a line, if it has one, is one that a run has a session for
-abbrev pub HasConn : ScriptLine → Type 0
-HasConn (line.Clerk moment) = ⊤
-HasConn (line.Says moment conn got) = conn ≤ MOST_CONN
 
 -- lines in order
 

@@ -5,9 +5,6 @@ ghost use Rattle.std.specs.Vec.{vec_len};
 
 use hb_desk::Desk;
 
-/// The greatest number of a connection.
-pub const MOST_CONN: u32 = 256;
-
 /// A run of lines that goes on: the session of each connection, by its number, and whether the
 /// keeper met a fault.
 #[derive(Drop)]

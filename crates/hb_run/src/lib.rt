@@ -22,6 +22,6 @@ mod runs;
 mod texts;
 
 pub use ends::RunEnd;
-pub use held::{MOST_CONN, ScriptRun};
+pub use held::ScriptRun;
 pub use laws::{lone_scripts, runs_join, scripts_see_the_view};
 pub use runs::run_script;

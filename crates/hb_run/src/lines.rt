@@ -3,17 +3,17 @@
 ghost use Rattle.std.specs.Prelude.{◌≡◌, ◌≤◌, ◌⊎◌, ℕ, IfErr, IsErrOf, IsTrue, OnOk};
 ghost use Rattle.hb_house.specs.KeeperSteps.{Tells};
 ghost use Rattle.hb_io.specs.Causes.{Rose};
+ghost use Rattle.hb_talk.specs.Scripts.{HasConnection};
 ghost use Rattle.hb_run.specs.HeldRuns.{FromEach, IsAt, has_failed};
 ghost use Rattle.hb_run.specs.RunLines.{RunState};
 ghost use Rattle.hb_run.specs.RunSteps.{AnyTelling, RunsLine, StopsLine};
-ghost use Rattle.hb_run.specs.ScriptRuns.{HasConn};
 
 use crate::texts::{write_fault, write_report, write_sent};
-use crate::{MOST_CONN, RunEnd, ScriptRun};
+use crate::{RunEnd, ScriptRun};
 use hb_house::{ClerkError, Hall, Report, clerk};
 use hb_io::{Got, Sink, Texts};
 use hb_keeper::Keeper;
-use hb_talk::{ScriptLine, TurnError};
+use hb_talk::{MOST_CONNECTION, ScriptLine, TurnError};
 use std::alloc::Global;
 
 impl ScriptRun {
@@ -26,7 +26,7 @@ impl ScriptRun {
         line: &ScriptLine,
         out: &mut O,
     ) -> Result<(), RunEnd>
-        requires { HasConn line.now }
+        requires { HasConnection line.now }
         ensures ok { OnOk result (FromEach (IsAt (H.stands hall.old)
             (Tells (K.tells keeper.old) (K.plan keeper.old)) (H.house hall.old) self.old)
             (K.is_sure keeper.new) (λ s. RunsLine (IsAt (H.stands hall.new)
@@ -70,7 +70,7 @@ impl ScriptRun {
         got: &Got,
         out: &mut O,
     ) -> Result<(), RunEnd>
-        requires { conn ≤ MOST_CONN }
+        requires { conn ≤ MOST_CONNECTION }
         ensures ok { OnOk result ((s : RunState)
             → IsAt (H.stands hall.old) AnyTelling (H.house hall.old) self.old s
             → RunsLine (IsAt (H.stands hall.new) AnyTelling (H.house hall.old) self.new)

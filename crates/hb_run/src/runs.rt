@@ -5,16 +5,17 @@ ghost use Rattle.hb_club.specs.Fronts.{Fronts, House};
 ghost use Rattle.hb_house.specs.ClerkRounds.{AtEach};
 ghost use Rattle.hb_house.specs.KeeperSteps.{Telling, Tells};
 ghost use Rattle.hb_io.specs.Causes.{Rose};
+ghost use Rattle.hb_talk.specs.Scripts.{HasConnection};
 ghost use Rattle.hb_run.specs.HeldRuns.{EndsAt, FromEach, Holds, IsAt, StopsAt, has_failed};
 ghost use Rattle.hb_run.specs.RunLines.{first_state};
-ghost use Rattle.hb_run.specs.ScriptRuns.{HasConn, RunsAll, RunsSome};
+ghost use Rattle.hb_run.specs.ScriptRuns.{RunsAll, RunsSome};
 
-use crate::{MOST_CONN, RunEnd, ScriptRun};
+use crate::{RunEnd, ScriptRun};
 use hb_desk::Desk;
 use hb_house::Hall;
 use hb_io::Sink;
 use hb_keeper::Keeper;
-use hb_talk::ScriptLine;
+use hb_talk::{MOST_CONNECTION, ScriptLine};
 use std::alloc::{AllocError, Global};
 
 impl ScriptRun {
@@ -24,7 +25,7 @@ impl ScriptRun {
             → Holds h run (first_state f c)) }
     {
         let mut desks = Vec::new(alloc);
-        for _ in 0..MOST_CONN + 1 {
+        for _ in 0..MOST_CONNECTION + 1 {
             desks.push(Desk::new())?;
         }
         Ok(ScriptRun {
@@ -59,7 +60,7 @@ impl ScriptRun {
         lines: &[ScriptLine],
         out: &mut O,
     ) -> Result<(), RunEnd>
-        requires { All HasConn lines.now }
+        requires { All HasConnection lines.now }
         ensures ok { OnOk result (FromEach (IsAt (H.stands hall.old)
             (Tells (K.tells keeper.old) (K.plan keeper.old)) (H.house hall.old) self.old)
             (K.is_sure keeper.new) (λ s. RunsAll (IsAt (H.stands hall.new)
@@ -106,7 +107,7 @@ pub fn run_script<H: Hall, K: Keeper, O: Sink>(
     lines: &[ScriptLine],
     out: &mut O,
 ) -> Result<bool, RunEnd>
-    requires { All HasConn lines.now }
+    requires { All HasConnection lines.now }
     ensures ok { IfOk result (λ failed. AtEach (H.stands hall.old)
         (Tells (K.tells keeper.old) (K.plan keeper.old)) (K.is_sure keeper.new)
         (λ f c. RunsAll (EndsAt (H.stands hall.new)

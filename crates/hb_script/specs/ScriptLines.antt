@@ -1,13 +1,13 @@
 -- Which lines has a text, and what does a line of a script say, behind those of its seed and deck?
-use Rattle.std.specs.Prelude.{ℕ, ◌+◌, ◌-◌, ◌*◌, ◌≤◌, Bool, true, false, ◌&&◌, ◌==◌, ⊤, List, [], ◌∷◌, Option, Some, None, codes, if◌then◌else◌, nat_le, option_map, bytes_eq}
+use Rattle.std.specs.Prelude.{ℕ, ◌+◌, ◌-◌, ◌*◌, Bool, true, false, ◌&&◌, ◌==◌, List, [], ◌∷◌, Option, Some, None, codes, if◌then◌else◌, nat_le, option_map, bytes_eq}
 use Rattle.std.specs.Char.{is_ascii_digit}
 use Rattle.std.specs.Str.{is_utf8}
 use Rattle.hb_timer.specs.declared.timing.TheConstants.{MOMENT_LIMIT}
 use Rattle.hb_io.specs.declared.got.Got.{Got}
 use Rattle.hb_io.specs.declared.got.Got.TheVariants as got
+use Rattle.hb_talk.specs.declared.scripts.TheConstants.{MOST_CONNECTION}
 use Rattle.hb_talk.specs.declared.scripts.ScriptLine.{ScriptLine}
 use Rattle.hb_talk.specs.declared.scripts.ScriptLine.TheVariants as line
-use Rattle.hb_script.specs.declared.limits.TheConstants.{CONNECTIONS}
 
 -- the lines of a text: each ends with a line feed, which the last may lack
 
@@ -56,7 +56,7 @@ abbrev pub moment_of : List ℕ → Option ℕ
 moment_of word = within 0 MOMENT_LIMIT (number_of word)
 
 abbrev pub conn_of : List ℕ → Option ℕ
-conn_of word = within 1 CONNECTIONS (number_of word)
+conn_of word = within 1 MOST_CONNECTION (number_of word)
 
 -- the lines: `MOMENT clerk`, `MOMENT CONN ~`, which is a tick, and `MOMENT CONN MESSAGE`
 
@@ -88,8 +88,3 @@ line_in (Some parts) = line_at (moment_of parts.0) parts.1
 -- what a line says; none if it is outside the grammar
 unfoldable pub line_of : List ℕ → Option ScriptLine
 line_of text = line_in (at_space text)
-
--- the connection of a line is one that a script can name
-abbrev pub HasConn : ScriptLine → Type 0
-HasConn (line.Clerk moment) = ⊤
-HasConn (line.Says moment conn got) = conn ≤ CONNECTIONS

@@ -19,7 +19,7 @@ mod tables;
 mod texts;
 
 pub use games::games_text;
-pub use limits::{CONNECTIONS, MADE_MEMBERS};
+pub use limits::MADE_MEMBERS;
 pub use made::{MadeTable, hello_lines, made_table, summary};
 pub use reading::read_script;
 pub use scripts::{Script, ScriptError};

@@ -1,12 +1,12 @@
 //! What does a line say, behind those of the seed and the deck?
 
 ghost use Rattle.std.specs.Prelude.{◌≡◌, IfOk, IfSome};
-ghost use Rattle.hb_script.specs.ScriptLines.{HasConn, at_space, got_of, line_of, said_in};
+ghost use Rattle.hb_talk.specs.Scripts.{HasConnection};
+ghost use Rattle.hb_script.specs.ScriptLines.{at_space, got_of, line_of, said_in};
 
 use crate::fields::{number, place};
-use crate::limits::CONNECTIONS;
 use hb_io::{Got, Text};
-use hb_talk::ScriptLine;
+use hb_talk::{MOST_CONNECTION, ScriptLine};
 use hb_timer::MOMENT_LIMIT;
 use std::alloc::{AllocError, Global};
 
@@ -32,13 +32,13 @@ fn got(alloc: Global, message: &[u8]) -> Result<Option<Got>, AllocError>
 /// The line of a connection, behind its moment; none if that is outside the grammar.
 fn said(alloc: Global, moment: u64, rest: &[u8]) -> Result<Option<ScriptLine>, AllocError>
     ensures is { IfOk result (λ line. line ≡ said_in moment (at_space rest.now)) }
-    ensures conn { IfOk result (λ line. IfSome line HasConn) }
+    ensures conn { IfOk result (λ line. IfSome line HasConnection) }
 {
     let at = place(rest, b' ');
     if at == rest.len() {
         return Ok(None);
     }
-    let conn = match number(&rest[..at], CONNECTIONS as u64) {
+    let conn = match number(&rest[..at], MOST_CONNECTION as u64) {
         None => return Ok(None),
         Some(conn) => conn,
     };
@@ -59,7 +59,7 @@ fn said(alloc: Global, moment: u64, rest: &[u8]) -> Result<Option<ScriptLine>, A
 /// What a line says; none if it is outside the grammar. The error comes only if memory is refused.
 pub fn line(alloc: Global, text: &[u8]) -> Result<Option<ScriptLine>, AllocError>
     ensures is { IfOk result (λ line. line ≡ line_of text.now) }
-    ensures conn { IfOk result (λ line. IfSome line HasConn) }
+    ensures conn { IfOk result (λ line. IfSome line HasConnection) }
 {
     let at = place(text, b' ');
     if at == text.len() {

@@ -3,10 +3,10 @@
 ghost use Rattle.std.specs.Prelude.{◌≡◌, ◌<◌, ◌≤◌, true, [], All, IfOk, OnOk, is_some, length};
 ghost use Rattle.hb_rules.specs.Positions.{ended, score};
 ghost use Rattle.hb_rules.specs.Start.{CanStart};
+ghost use Rattle.hb_talk.specs.Scripts.{HasConnection};
 ghost use Rattle.hb_script.specs.MadeActs.{played_on};
 ghost use Rattle.hb_script.specs.MadeScripts.{hello_line as line_of_hello, hello_lines as lines_of_hellos, made_game, made_players as players_of, made_seed as bytes_of_seed, made_start as start_of, no_variant as variant_of, summary as summary_of, table_asks, table_lines};
 ghost use Rattle.hb_script.specs.MadeTables.{HasAsked};
-ghost use Rattle.hb_script.specs.ScriptLines.{HasConn};
 
 use crate::choices::next_action;
 use crate::limits::MADE_MEMBERS;
@@ -126,7 +126,7 @@ fn play(alloc: Global, game: &mut Game, lines: &mut TableLines) -> Result<(), Al
 pub fn made_table(alloc: Global, seed: u64, table: u32) -> Result<MadeTable, AllocError>
     requires { 1 ≤ table }
     ensures lines { IfOk result (λ made. made.lines ≡ table_lines seed table) }
-    ensures conns { IfOk result (λ made. All HasConn made.lines) }
+    ensures conns { IfOk result (λ made. All HasConnection made.lines) }
     ensures acts { IfOk result (λ made. made.acts ≡ length (made_game seed table).past) }
     ensures score { IfOk result (λ made. made.score ≡ score (made_game seed table)) }
     ensures ended { OnOk result (is_some (ended (made_game seed table)) ≡ true) }
@@ -144,7 +144,7 @@ pub fn made_table(alloc: Global, seed: u64, table: u32) -> Result<MadeTable, All
 fn hello_line(alloc: Global, member: u8) -> Result<ScriptLine, AllocError>
     requires { member < MADE_MEMBERS }
     ensures is { IfOk result (λ line. line ≡ line_of_hello member) }
-    ensures conn { IfOk result HasConn }
+    ensures conn { IfOk result HasConnection }
 {
     let hello = Request::Hello {
         name: Text::from_string(format!(in alloc; "m{member}")?),
@@ -157,7 +157,7 @@ fn hello_line(alloc: Global, member: u8) -> Result<ScriptLine, AllocError>
 /// only if memory is refused.
 pub fn hello_lines(alloc: Global) -> Result<Sequence<ScriptLine>, AllocError>
     ensures lines { IfOk result (λ lines. lines ≡ lines_of_hellos) }
-    ensures conns { IfOk result (λ lines. All HasConn lines) }
+    ensures conns { IfOk result (λ lines. All HasConnection lines) }
 {
     let mut lines = Sequence::new(alloc);
     for member in 0..MADE_MEMBERS as u8 {

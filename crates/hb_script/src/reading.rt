@@ -1,8 +1,9 @@
 //! Which script is a text?
 
 ghost use Rattle.std.specs.Prelude.{◌≡◌, ◌≤◌, ◌+◌, drop, length, All, IfErr, IfOk, Ok, Some};
+ghost use Rattle.hb_talk.specs.Scripts.{HasConnection};
 ghost use Rattle.hb_script.specs.ScriptGrammar.{IsUnread, behind_seed, script_of};
-ghost use Rattle.hb_script.specs.ScriptLines.{HasConn, lines_of};
+ghost use Rattle.hb_script.specs.ScriptLines.{lines_of};
 ghost use Rattle.hb_script.specs.ScriptReading.{IsUnreadAs};
 
 use crate::fields::place;
@@ -27,7 +28,7 @@ fn after(text: &[u8], end: usize) -> &[u8]
 /// The script of a seed and of what stands behind its line.
 fn behind(alloc: Global, seed: [u8; 32], rest: &[u8]) -> Result<Script, ScriptError>
     ensures ok { IfOk result (λ script. behind_seed (Some seed) (lines_of rest.now) ≡ Ok script) }
-    ensures conns { IfOk result (λ script. All HasConn script.lines) }
+    ensures conns { IfOk result (λ script. All HasConnection script.lines) }
     ensures err { IfErr result (IsUnreadAs (behind_seed (Some seed) (lines_of rest.now))) }
 {
     let end = place(rest, b'\n');
@@ -59,7 +60,8 @@ fn behind(alloc: Global, seed: [u8; 32], rest: &[u8]) -> Result<Script, ScriptEr
     }
 }
 
-/// The script that a text is. Its lines name connections from 1 to [`crate::CONNECTIONS`] alone.
+/// The script that a text is. Its lines name connections from 1 to
+/// [`MOST_CONNECTION`](hb_talk::MOST_CONNECTION) alone.
 ///
 /// `Line(n)` if the line with the number `n`, from 1, is the first outside the grammar: line 1 is
 /// `seed ` and 64 hexadecimal digits in lower case; line 2 may be `deck ` and 25 to 60 identities,
@@ -69,7 +71,7 @@ fn behind(alloc: Global, seed: [u8; 32], rest: &[u8]) -> Result<Script, ScriptEr
 /// outside the grammar at line 1. `NoMemory` if memory runs out.
 pub fn read_script(alloc: Global, text: &[u8]) -> Result<Script, ScriptError>
     ensures ok { IfOk result (λ script. script_of text.now ≡ Ok script) }
-    ensures conns { IfOk result (λ script. All HasConn script.lines) }
+    ensures conns { IfOk result (λ script. All HasConnection script.lines) }
     ensures err { IfErr result (IsUnread text.now) }
 {
     let end = place(text, b'\n');

@@ -1,9 +1,9 @@
 //! Which lines ask something at a made table?
 
 ghost use Rattle.std.specs.Prelude.{◌≡◌, ◌<◌, ◌+◌, ◌^◌, ℕ, List, [], ◌∷◌, All, IfOk, OnOk, slice_index};
+ghost use Rattle.hb_talk.specs.Scripts.{HasConnection};
 ghost use Rattle.hb_script.specs.MadeScripts.{Asked, ask_of as ask_of_action, lines_with, message as message_of, says as says_line, wire_clue_of as wire_clue_of_clue};
 ghost use Rattle.hb_script.specs.MadeTables.{HasAsked};
-ghost use Rattle.hb_script.specs.ScriptLines.{HasConn};
 
 use crate::limits::MADE_MEMBERS;
 use hb_io::{Got, Sequence, Text};
@@ -126,7 +126,7 @@ impl TableLines {
         ensures is { IfOk result (λ lines. (table : ℕ) (all : List Asked)
             → HasAsked self table all → lines ≡ lines_with table all) }
         ensures conns { IfOk result (λ lines. (table : ℕ) (all : List Asked)
-            → HasAsked self table all → All HasConn lines) }
+            → HasAsked self table all → All HasConnection lines) }
     {
         let close = self.line(alloc, 0, Some(Ask::Close))?;
         self.lines.push(ScriptLine::Clerk { moment: 0 })?;

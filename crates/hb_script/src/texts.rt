@@ -1,8 +1,9 @@
 //! What do the lines of a text say?
 
 ghost use Rattle.std.specs.Prelude.{◌≡◌, ◌≤◌, All, IfErr, IfOk, Ok};
+ghost use Rattle.hb_talk.specs.Scripts.{HasConnection};
 ghost use Rattle.hb_script.specs.ScriptGrammar.{read_lines};
-ghost use Rattle.hb_script.specs.ScriptLines.{HasConn, lines_of};
+ghost use Rattle.hb_script.specs.ScriptLines.{lines_of};
 ghost use Rattle.hb_script.specs.ScriptReading.{IsUnreadFrom};
 
 use crate::fields::place;
@@ -20,7 +21,7 @@ pub fn further(
 ) -> Result<Sequence<ScriptLine>, ScriptError>
     requires { first ≤ 3 }
     ensures ok { IfOk result (λ lines. read_lines first (lines_of bytes.now) ≡ Ok lines) }
-    ensures conns { IfOk result (λ lines. All HasConn lines) }
+    ensures conns { IfOk result (λ lines. All HasConnection lines) }
     ensures err { IfErr result (IsUnreadFrom first bytes.now) }
 {
     let mut lines = Sequence::new(alloc);

@@ -1,12 +1,13 @@
 -- What does a script write? Its lines are run in order, from empty lists of the rooms and of the
 -- lobby on. Lines stand newest first.
-use Rattle.std.specs.Prelude.{ℕ, Bool, true, false, ◌||◌, ◌==◌, List, [], ◌∷◌, ◌++◌, Option, Some, None, codes, decimal, flat_map, if◌then◌else◌}
+use Rattle.std.specs.Prelude.{ℕ, ◌≤◌, Bool, true, false, ◌||◌, ◌==◌, ⊤, List, [], ◌∷◌, ◌++◌, Option, Some, None, codes, decimal, flat_map, if◌then◌else◌}
 use Rattle.hb_keeper.specs.declared.errors.KeepError.{KeepError}
 use Rattle.hb_keeper.specs.declared.errors.KeepError.TheVariants.{Fault}
 use Rattle.hb_club.specs.Fronts.{Fronts, House, is_room, no_events, with_entry, with_event}
 use Rattle.hb_club.specs.RoomEvents.{Call}
 use Rattle.hb_talk.specs.declared.errands.Errand.{Errand}
 use Rattle.hb_talk.specs.declared.errands.Errand.TheVariants as errand
+use Rattle.hb_talk.specs.declared.scripts.TheConstants.{MOST_CONNECTION}
 use Rattle.hb_talk.specs.declared.scripts.ScriptLine.{ScriptLine}
 use Rattle.hb_talk.specs.declared.scripts.ScriptLine.TheVariants as line
 use Rattle.hb_talk.specs.declared.sessions.Session.{Session}
@@ -89,6 +90,11 @@ after_clerk s r = let fault = is_fault r.refused in record {
 }
 
 -- the lines
+
+-- the connection of a line, if it has one, is one that a script may name
+abbrev pub HasConnection : ScriptLine → Type 0
+HasConnection (line.Clerk moment) = ⊤
+HasConnection (line.Says moment conn got) = conn ≤ MOST_CONNECTION
 
 -- a line, in a house of so many rooms; none is run behind what stopped the script
 abbrev pub ran_unless : Option KeepError → House → ℕ → Stage → ScriptLine → Ran

@@ -14,5 +14,5 @@ mod sessions;
 
 pub use errands::{Denial, Errand};
 pub use laws::turns_see_the_view;
-pub use scripts::ScriptLine;
+pub use scripts::{MOST_CONNECTION, ScriptLine};
 pub use sessions::{Marks, Next, Session, TurnError};

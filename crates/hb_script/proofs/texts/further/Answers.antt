@@ -1,7 +1,8 @@
 use Rattle.std.proofs.Common.{◌≡◌, sym, ◌∙◌, ◌+◌, ◌++◌, ◌∷◌, [], arith, drop, length-drop, List, ℕ}
 use Rattle.hb_script.specs.ScriptGrammar.{read_lines}
 use Rattle.std.proofs.lemmas.List.Elements.{All-push}
-use Rattle.hb_script.specs.ScriptLines.{HasConn, lines_of}
+use Rattle.hb_talk.specs.Scripts.{HasConnection}
+use Rattle.hb_script.specs.ScriptLines.{lines_of}
 use Rattle.hb_script.specs.ScriptReading.{lines_behind}
 use Rattle.hb_script.proofs.FurtherLines.{line-bad, line-more, tail-is, tail-low, tail_after}
 use Rattle.hb_script.proofs.texts.further.Goals as goal
@@ -27,7 +28,7 @@ loop-at-preserved c =
     record {
       within = omega (arith, w, d, c.loop-at-test.true);
       number = omega (arith, c.loop-at.invariant.number);
-      conns = rw p (All-push HasConn c.loop-at.lines c.in-Ok-Some.said c.loop-at.invariant.conns (rw c.in-Ok-Some.field-0-is at
+      conns = rw p (All-push HasConnection c.loop-at.lines c.in-Ok-Some.said c.loop-at.invariant.conns (rw c.in-Ok-Some.field-0-is at
           c.in-Ok-Some.ensures.conn));
       so = rw p (tail_after c.loop-at.at c.place-end.result c.args.bytes.now (λ (l : List ℕ). read_lines c.args.first (lines_of
           c.args.bytes.now) ≡ lines_behind (c.loop-at.lines ++ c.in-Ok-Some.said ∷ []) (read_lines (c.loop-at.number + 1) (lines_of l))) m);
