@@ -159,8 +159,8 @@ load-comes s past e (command.Load id) taken asks =
       added = rw taken refl;
       stands = done-standing u mine load refl fresh;
       free = λ name k at is.
-          let same_host : host u.items ≡ Some name = (time-opens-none (table_of s past) (table_of s past).game (event_moment (Call load))).host
-          (table_of s past).items ∙ at in
+          let same_host : host u.items ≡ Some name =
+          (time-opens-none (table_of s past) (table_of s past).game (event_moment (Call load))).host (table_of s past).items ∙ at in
           let same : e.member ≡ name = only-host e.member name (rw same_host at hosts) in
           let some : pending_id (own_for u mine load) u.items ≡ Some k =
           ap (λ (l : List OwnEntry). pending_id l u.items) (own

@@ -124,6 +124,19 @@ none-pending own stamp (Some w) late items id within none ends is = by (or_cases
         let bad : ◌≡◌ {A = Option ℕ} None (Some id) = sym gone ∙ is in cc
     by (inr there) = two-tests (has ends_load late) there none
 
+-- what an event adds opens no table, if its item opens none
+added-opens-none : (s : Site) (past : List Happening) (h : Happening) (adds : Adds s past h) (o : Option What) → adds.item ≡ o
+    → ((name : List ℕ) → o ≡ Some (what.Opened name) → ⊥) → OpenNone h.added
+added-opens-none s past h adds o is other = subst OpenNone (sym adds.added)
+    (subst (λ (o : Option What). OpenNone (stamped_item adds.stamp o ++ late)) (sym is)
+    (opens-none adds.stamp o late other (time-opens-none t t.game adds.moment)))
+  where
+    t : Table
+    t = table_of s past
+
+    late : List Item
+    late = timeout t t.game adds.moment
+
 event-open : (s : Site) (events : List RoomEvent) (e : RoomEvent) → IsOpenIfPending s (past_of s events)
     → IsOpenIfPending s (past_of s (e ∷ events))
 unfolding IsOpenIfPending
@@ -184,10 +197,8 @@ event-open s events e before some = by_asks (event-asks s past e)
 
     by_item : HeadsAreQuiet s past e → (o : Option What) → adds.item ≡ o → has is_closed (table_of s (h ∷ past)).items ≡ false
     by_item quiet (Some (what.Opened by)) is = ap (has is_closed) (opened-items s past h adds by is)
-    by_item quiet None is = quiet-open quiet (subst OpenNone (sym adds.added) (subst (λ (o : Option What). OpenNone (stamped_item adds.stamp o ++ late)) (sym is)
-        (time-opens-none t t.game adds.moment)))
-    by_item quiet (Some w) is = quiet-open quiet (subst OpenNone (sym adds.added) (subst (λ (o : Option What). OpenNone (stamped_item adds.stamp o ++ late)) (sym is)
-        (opens-none adds.stamp (Some w) late (λ name bad. absurd cc) (time-opens-none t t.game adds.moment))))
+    by_item quiet None is = quiet-open quiet (added-opens-none s past h adds None is (λ name bad. absurd cc))
+    by_item quiet (Some w) is = quiet-open quiet (added-opens-none s past h adds (Some w) is (λ name bad. absurd cc))
 
     by_asks : HeadsAreQuiet s past e ⊎ LoadComes s past e → has is_closed (table_of s (h ∷ past)).items ≡ false
     by_asks (inl quiet) = by_item quiet adds.item refl
@@ -248,18 +259,12 @@ event-pending s events e id is none_ends = by_asks (event-asks s past e)
       latest = (behind s past h none).latest;
     }
 
-    late : List Item
-    late = timeout t t.game adds.moment
-
     by_item : HeadsAreQuiet s past e → (o : Option What) → adds.item ≡ o → MayComeIf t.game (timed_table s past adds.moment).items o
         → StaysPending s past (h ∷ past) id
     by_item quiet (Some (what.Opened by)) item may = absurd (two-tests (is_standing (timed_table s past adds.moment).items)
         (standing-time t t.game adds.moment t.items ∙ stands) may)
-    by_item quiet None item may = stays quiet (subst OpenNone (sym adds.added)
-        (subst (λ (o : Option What). OpenNone (stamped_item adds.stamp o ++ late)) (sym item) (time-opens-none t t.game adds.moment)))
-    by_item quiet (Some w) item may = stays quiet (subst OpenNone (sym adds.added)
-        (subst (λ (o : Option What). OpenNone (stamped_item adds.stamp o ++ late)) (sym item)
-        (opens-none adds.stamp (Some w) late (λ name bad. absurd cc) (time-opens-none t t.game adds.moment))))
+    by_item quiet None item may = stays quiet (added-opens-none s past h adds None item (λ name bad. absurd cc))
+    by_item quiet (Some w) item may = stays quiet (added-opens-none s past h adds (Some w) item (λ name bad. absurd cc))
 
     by_asks : HeadsAreQuiet s past e ⊎ LoadComes s past e → StaysPending s past (h ∷ past) id
     by_asks (inl quiet) = by_item quiet adds.item refl adds.may

@@ -171,7 +171,8 @@ line_alone-other (what.Acted act) none opened started acted paused resumed loade
 line_alone-other (what.Paused by) none opened started acted paused resumed loaded reviewed = paused by refl
 line_alone-other (what.Resumed by) none opened started acted paused resumed loaded reviewed = resumed by refl
 line_alone-other (what.Loaded id) none opened started acted paused resumed loaded reviewed = loaded id refl
-line_alone-other (what.Reviewed turn hypos action) none opened started acted paused resumed loaded reviewed = reviewed turn hypos action refl
+line_alone-other (what.Reviewed turn hypos action) none opened started acted paused resumed loaded reviewed =
+    reviewed turn hypos action refl
 
 -- what a call wrote of an item of a kind
 pub on_ok-kind : {T E : Type 0} (r : Result T E) (a : Answered) (item : Item) (kind : What) (c left : Cursor) (old new : List (List ℕ))

@@ -9,4 +9,5 @@ pub returns : goal.returns
 returns c = on_ok-three_parts c.push_state.result _ c.args.out.now
     (game_line c.args.name.now c.args.game.now.setup.options c.args.players.now ∷ [])
     (map event_line (observed 0 c.args.game.now).events) (state_line (seen_state (observed 0 c.args.game.now)) ∷ []) _ refl
-    (rw (c.in_ok-push_events.ensures, c.in_ok-push_game.ensures, c.options.ensures, c.none.ensures.bits, c.none-2.ensures.bits) at c.push_state.ensures)
+    (rw (c.in_ok-push_events.ensures, c.in_ok-push_game.ensures, c.options.ensures, c.none.ensures.bits, c.none-2.ensures.bits)
+    at c.push_state.ensures)

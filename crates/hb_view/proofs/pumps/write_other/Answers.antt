@@ -4,7 +4,8 @@ use Rattle.hb_view.proofs.pumps.write_other.Goals as goal
 
 pub returns-in-Opened : goal.returns-in-Opened
 returns-in-Opened c = on_ok-kind c.write_opened.result c.args.a.now c.args.item _ c.args.next.now c.args.next.now
-    c.args.out.now c.write_opened.new.out c.in-Opened.is (on_ok_weaker c.write_opened.result (λ all. all c.args.next.now c.args.item.moment) c.write_opened.ensures)
+    c.args.out.now c.write_opened.new.out c.in-Opened.is
+    (on_ok_weaker c.write_opened.result (λ all. all c.args.next.now c.args.item.moment) c.write_opened.ensures)
 
 pub returns-in-Started : goal.returns-in-Started
 returns-in-Started c = on_ok-kind c.write_started.result c.args.a.now c.args.item _ c.args.next.now c.write_started.new.next
@@ -24,11 +25,13 @@ returns-in-Resumed c = on_ok-kind c.write_resumed.result c.args.a.now c.args.ite
 
 pub returns-in-Loaded : goal.returns-in-Loaded
 returns-in-Loaded c = on_ok-kind c.write_loaded.result c.args.a.now c.args.item _ c.args.next.now c.args.next.now
-    c.args.out.now c.write_loaded.new.out c.in-Loaded.is (on_ok_weaker c.write_loaded.result (λ all. all c.args.next.now c.args.item.moment) c.write_loaded.ensures)
+    c.args.out.now c.write_loaded.new.out c.in-Loaded.is
+    (on_ok_weaker c.write_loaded.result (λ all. all c.args.next.now c.args.item.moment) c.write_loaded.ensures)
 
 pub returns-in-Reviewed : goal.returns-in-Reviewed
 returns-in-Reviewed c = on_ok-kind c.write_reviewed.result c.args.a.now c.args.item _ c.args.next.now c.write_reviewed.new.next
-    c.args.out.now c.write_reviewed.new.out c.in-Reviewed.is (on_ok_weaker c.write_reviewed.result (λ all. all c.args.item.moment) c.write_reviewed.ensures)
+    c.args.out.now c.write_reviewed.new.out c.in-Reviewed.is
+    (on_ok_weaker c.write_reviewed.result (λ all. all c.args.item.moment) c.write_reviewed.ensures)
 
 pub returns-in_default : goal.returns-in_default
 returns-in_default c = λ w more before is shows all so.

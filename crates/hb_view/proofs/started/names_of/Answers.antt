@@ -6,7 +6,8 @@ use Rattle.hb_view.proofs.started.names_of.Goals as goal
 
 pub loop-name-preserved : goal.loop-name-preserved
 loop-name-preserved c =
-    let step : take (c.loop-name.name-index + 1) c.args.names.now ≡ take c.loop-name.name-index c.args.names.now ++ c.name-item.result ∷ [] = grind (arith, common_steps, c.name-item.is) in
+    let step : take (c.loop-name.name-index + 1) c.args.names.now
+    ≡ take c.loop-name.name-index c.args.names.now ++ c.name-item.result ∷ [] = grind (arith, common_steps, c.name-item.is) in
     rw (c.in_ok-push_name.ensures, step, c.loop-name.invariant) (sym (filter_map-append (λ (name : Option (List ℕ)). name)
     (take c.loop-name.name-index c.args.names.now) (c.name-item.result ∷ [])))
 

@@ -14,4 +14,5 @@ returns c = λ low. on_ok-two_parts c.push_standing.result _ c.args.out.now
     (standing_lines (observed (blind_of c.args.viewer c.args.game.now.setup.players) c.args.game.now)
     (clock_texts (clock_if c.args.game.now.setup.options.timed (Some c.args.clock)) c.args.game.now.setup.players c.args.moment)) _
     (rw c.requires refl)
-    (rw (c.in_ok-push_deal.ensures, c.blind_for-blind.ensures low, c.players.ensures.players, c.clock_if-clock.ensures, c.options.ensures) at c.push_standing.ensures)
+    (rw (c.in_ok-push_deal.ensures, c.blind_for-blind.ensures low, c.players.ensures.players, c.clock_if-clock.ensures, c.options.ensures)
+    at c.push_standing.ensures)
