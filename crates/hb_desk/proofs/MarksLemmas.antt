@@ -1,7 +1,7 @@
 -- From which item does an answer go on behind marks, and what do marks say of a view?
 use Rattle.std.proofs.Common.{◌≡◌, ℕ, ◌+◌, ◌≤◌, Bool, true, false, List, length, refl, sym, ◌∙◌, ap, arith, Some, None, length-take}
-use Rattle.std.proofs.lemmas.Bool.{and_parts}
-use Rattle.std.proofs.lemmas.Bool.Decides.{Decides-eqb, nat_tests}
+use Rattle.std.proofs.lemmas.Bool.{and_parts, eqb-true}
+use Rattle.std.proofs.lemmas.Bool.Decides.{nat_tests}
 use Rattle.std.proofs.lemmas.List.{length-reverse}
 use Rattle.std.specs.Option.{option_eq}
 use Rattle.std.specs.Prelude.{Option, ◌&&◌, ◌==◌, if◌then◌else◌, nat_le, nat_lt, unwrap_or}
@@ -18,19 +18,15 @@ use Rattle.hb_talk.specs.declared.sessions.Marks.{Marks}
 use Rattle.hb_talk.specs.Sessions.{marks_after, seen_of}
 use Rattle.hb_talk.specs.Turns.{marked_count, marks_of}
 
--- numbers that are tested as equal are one
-same-number : (a b : ℕ) → (a == b) ≡ true → a ≡ b
-same-number a b is = (Decides-eqb a b).0 is
-
 same-shadow : (a b : Option ℕ) → option_eq ◌==◌ a b ≡ true → a ≡ b
 same-shadow None None is = refl
 same-shadow None (Some b) is = absurd cc
 same-shadow (Some a) None is = absurd cc
-same-shadow (Some a) (Some b) is = ap Some (same-number a b is)
+same-shadow (Some a) (Some b) is = ap Some (eqb-true a b is)
 
 -- viewers that are tested as the same are one
 pub same_viewer-is : (a b : Viewer) → same_viewer a b ≡ true → a ≡ b
-same_viewer-is (Seat s) (Seat t) is = ap Seat (same-number s t is)
+same_viewer-is (Seat s) (Seat t) is = ap Seat (eqb-true s t is)
 same_viewer-is (Seat s) (Watcher b) is = absurd cc
 same_viewer-is (Seat s) Guest is = absurd cc
 same_viewer-is (Watcher a) (Seat t) is = absurd cc
@@ -58,8 +54,8 @@ marked_count-is m room w count is = by (m.room == room && m.table == w.latest &&
         let parts : ((m.room == room && m.table == w.latest) ≡ true) × (same_viewer m.viewer w.viewer ≡ true) = and_parts _ _ test in
         let both : ((m.room == room) ≡ true) × ((m.table == w.latest) ≡ true) = and_parts _ _ parts.0 in
         let same : m.count ≡ count = cc in record {
-          same_room = same-number m.room room both.0;
-          same_table = same-number m.table w.latest both.1;
+          same_room = eqb-true m.room room both.0;
+          same_table = eqb-true m.table w.latest both.1;
           same_viewer = same_viewer-is m.viewer w.viewer parts.1;
           same_count = same;
         }
@@ -81,7 +77,7 @@ seen_from-marks (Some m) room w fits = by (m.room == room) refl
     by_viewer false viewer table_is viewer_is here = rw table_is refl
     by_viewer true false table_is viewer_is here = rw (table_is, viewer_is) refl
     by_viewer true true table_is viewer_is here =
-        let within : m.count ≤ length w.items = fits m refl (same-number m.room room here) (same-number m.table w.latest table_is)
+        let within : m.count ≤ length w.items = fits m refl (eqb-true m.room room here) (eqb-true m.table w.latest table_is)
         (same_viewer-is m.viewer w.viewer viewer_is) in
         let small : nat_le m.count (length w.items) ≡ true = grind (arith, nat_tests) in
         rw (table_is, viewer_is, small) refl

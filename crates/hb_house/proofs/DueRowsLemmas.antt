@@ -1,7 +1,7 @@
 -- Is the row of a table's game the same each time that the game is due? Yes.
 use Rattle.std.proofs.Common.{◌≡◌, ℕ, ◌+◌, Bool, true, false, List, [], ◌∷◌, ◌++◌, refl, ap, sym, ◌∙◌, arith, length, Some, None, Option}
 use Rattle.std.specs.Prelude.{◌==◌, is_some, not, if◌then◌else◌}
-use Rattle.std.proofs.lemmas.Bool.{and_parts}
+use Rattle.std.proofs.lemmas.Bool.{and_parts, not-true}
 use Rattle.hb_rules.specs.declared.acts.Act.{Act}
 use Rattle.hb_rules.specs.declared.acts.Options.{Options}
 use Rattle.hb_rules.specs.declared.setups.Setup.{Setup}
@@ -90,10 +90,6 @@ save-parts s t past (Some g) key row is = by (is_due t) refl is
           serial = sym (ap (λ (x : Key × GameRow). x.0.serial) same);
         }
 
-not-false : (b : Bool) → not b ≡ true → b ≡ false
-not-false true is = absurd cc
-not-false false is = refl
-
 over-same : (g h : Option Setup) (items l : List Item) → g ≡ h → acts items ≡ acts l
     → is_some (game_end g items) ≡ is_some (game_end h l)
 over-same g h items l same_game same_acts = by g h same_game
@@ -124,7 +120,7 @@ asked-due s moment events todo key row is save =
       is = row_by-same _ (players t.items) _ t.name _ (acts t.items) _ (set_notes t.latest past) _ t.game (ap players kept.items)
           (ap (λ (o : List ℕ × Options). o.0) kept.opening) (ap acts kept.items) notes kept.game ∙ parts.is;
       over = over-same _ t.game _ t.items kept.game (ap acts kept.items) ∙ due.0;
-      unsaved = ap (has is_saved) kept.items ∙ not-false (has is_saved t.items) due.1;
+      unsaved = ap (has is_saved) kept.items ∙ not-true (has is_saved t.items) due.1;
       serial = parts.serial ∙ sym kept.latest;
     }
 

@@ -1,7 +1,7 @@
 -- Is a load that was pending ended behind the round of its room? Yes, by its note or by a closing.
 use Rattle.std.proofs.Common.{◌≡◌, ℕ, ◌+◌, ◌≤◌, ◌⊎◌, inl, inr, Bool, true, false, List, [], ◌∷◌, ◌++◌, refl, ap, arith, sym, subst, ◌∙◌, append_assoc, length, length-append, Some, None, Option}
 use Rattle.std.specs.Prelude.{◌&&◌, ◌||◌, ◌==◌, is_some, not, option_map, if◌then◌else◌}
-use Rattle.std.proofs.lemmas.Bool.{and_from, and_parts, or_cases, or_parts}
+use Rattle.std.proofs.lemmas.Bool.{and_from, and_parts, not-true, or_cases, or_parts}
 use Rattle.std.proofs.lemmas.Bool.Decides.{Decides-eqb}
 use Rattle.std.proofs.lemmas.List.Folds.{list_any-append}
 use Rattle.hb_club.specs.declared.clerks.ClerkNote.TheVariants as note
@@ -94,10 +94,6 @@ closed-ends [] none = refl
 closed-ends (i ∷ items) none =
     let parts : (ends_load i.what ≡ false) × (has ends_load items ≡ false) = or_parts (ends_load i.what) (has ends_load items) none in
     rw (closed-one i.what parts.0, closed-ends items parts.1) refl
-
-not-false : (b : Bool) → not b ≡ true → b ≡ false
-not-false true is = absurd cc
-not-false false is = refl
 
 record SomeId (o : Option ℕ) : Type 0 where
   id : ℕ
@@ -207,7 +203,7 @@ event-open s events e before some = by_asks (event-asks s past e)
         let b = behind s past h none in
         let stands = and_parts _ _ comes.stands in
         ap (has is_closed) (b.items ∙ ap (λ (l : List Item). l ++ t.items) comes.added)
-        ∙ not-false (has is_closed (timed_table s past (event_moment e)).items) stands.1
+        ∙ not-true (has is_closed (timed_table s past (event_moment e)).items) stands.1
 
 open-if-pending : (s : Site) (events : List RoomEvent) → IsOpenIfPending s (past_of s events)
 unfolding IsOpenIfPending

@@ -13,10 +13,11 @@ use Rattle.hb_house.specs.PlainHalls.{PlainStands}
 use Rattle.hb_house.proofs.ListLemmas.{set-here, set-there, slice_get-append_one}
 
 -- the room that took an event has it in front
-with_event-here : (room : ℕ) (e : RoomEvent) (f : Fronts) → (with_event room e f).rooms room ≡ e ∷ f.rooms room
+pub with_event-here : (room : ℕ) (e : RoomEvent) (f : Fronts) → (with_event room e f).rooms room ≡ e ∷ f.rooms room
 with_event-here room e f = let same : nat_eq room room ≡ true = eq-eqb room room refl in rw same refl
 
-with_event-there : (room other : ℕ) (e : RoomEvent) (f : Fronts) → other ≢ room → (with_event room e f).rooms other ≡ f.rooms other
+-- and each other room has its list
+pub with_event-there : (room other : ℕ) (e : RoomEvent) (f : Fronts) → other ≢ room → (with_event room e f).rooms other ≡ f.rooms other
 with_event-there room other e f apart = let no : nat_eq other room ≡ false = grind (arith, nat_tests) in rw no refl
 
 -- a room took an event, and nobody else came

@@ -19,7 +19,8 @@ round-sure sure alone s moment old new c d r t round at =
     (saves-sure sure alone s moment round.asks.todo.save (AsksTodo moment ∷ round.asks.others ++ old) due.middle c due.between r
     due.report due.saves at)
 
-rounds-sure : (sure : Type 0) (alone : Bool) (h : House) (moment : ℕ) (p : Place) (n : ℕ) (q : Place) → Rounds alone h moment p n q
+-- rounds leave a content told that was told
+pub rounds-sure : (sure : Type 0) (alone : Bool) (h : House) (moment : ℕ) (p : Place) (n : ℕ) (q : Place) → Rounds alone h moment p n q
     → IsSure sure p.keeper → IsSure sure q.keeper
 rounds-sure sure alone h moment p zero q same at = subst (IsSure sure) (sym same.keeper) at
 rounds-sure sure alone h moment p (suc n) q more at =

@@ -1,5 +1,5 @@
 -- Is what a script sends a connection a function of the connection's turns? Yes.
-use Rattle.std.proofs.Common.{◌≡◌, ◌≢◌, ◌==◌, ℕ, Bool, true, false, List, [], ◌∷◌, ◌++◌, refl, sym, ap, subst, ◌∙◌, append-nil, arith, nat_eq, Some, None, if◌then◌else◌, eq-eqb}
+use Rattle.std.proofs.Common.{◌≡◌, ◌≢◌, ◌==◌, ℕ, Bool, true, false, List, [], ◌∷◌, ◌++◌, refl, sym, ap, subst, ◌∙◌, append-nil, arith, Some, None, if◌then◌else◌}
 use Rattle.std.proofs.lemmas.Bool.{eqb-false}
 use Rattle.std.proofs.lemmas.Bool.Decides.{nat_tests}
 use Rattle.std.specs.Prelude.{Option}
@@ -15,6 +15,7 @@ use Rattle.hb_talk.specs.Scripts.{Ran, Stage, first_stage, fronts_after, ran_unl
 use Rattle.hb_talk.specs.Turns.{Turn, turn_of, turn_on}
 use Rattle.hb_run.specs.AlikeScripts.{AlikeScripts}
 use Rattle.hb_run.specs.ConnSights.{ConnTurn, conn_turns, sent_to, sight, text_to, turn_unless, turn_when}
+use Rattle.hb_run.proofs.HeldLemmas.{session-here}
 use Rattle.hb_run.proofs.SightLemmas.{hear, heard-seen}
 use Rattle.hb_run.proofs.WholeListsLemmas.{AreWhole, stage-whole}
 
@@ -50,9 +51,6 @@ session-other : (conn other : ℕ) (y : Session) (sessions : List (ℕ × Sessio
     → session_of conn ((other, y) ∷ sessions) ≡ session_of conn sessions
 session-other conn other y sessions is = rw is refl
 
-session-own : (conn : ℕ) (y : Session) (sessions : List (ℕ × Session)) → session_of conn ((conn, y) ∷ sessions) ≡ y
-session-own conn y sessions = let same : nat_eq conn conn ≡ true = eq-eqb conn conn refl in rw same refl
-
 -- the line is the connection's
 own-line : (h : House) (count conn moment : ℕ) (got : Got) (b : Stage) (x : Session) (before : List ℕ) (turns : List ConnTurn)
     → AreWhole b.fronts → session_of conn b.sessions ≡ session_then x turns → before ≡ texts_then conn x turns
@@ -66,7 +64,7 @@ own-line h count conn moment got b x before turns whole session text =
     let turn : turn_of h count after y task ≡ turn_then (session_then x turns) t =
     turn-seen h count b y moment got whole ∙ ap (λ (z : Session). turn_then z t) session in
     record {
-      session = session-own conn (turn_of h count after y task).left b.sessions ∙ ap (λ (u : Turn). u.left) turn;
+      session = session-here conn (turn_of h count after y task).left b.sessions ∙ ap (λ (u : Turn). u.left) turn;
       text = ap (λ (l : List ℕ). l ++ sent conn (turn_of h count after y task).texts) text
           ∙ ap (λ (u : Turn). texts_then conn x turns ++ sent conn u.texts) turn;
     }

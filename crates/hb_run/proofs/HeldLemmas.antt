@@ -17,7 +17,8 @@ use Rattle.hb_run.specs.RunLines.{RunState, first_state}
 
 -- sessions by connection
 
-session-here : (conn : ℕ) (x : Session) (others : List (ℕ × Session)) → session_of conn ((conn, x) ∷ others) ≡ x
+-- whose line came last has the session that it left
+pub session-here : (conn : ℕ) (x : Session) (others : List (ℕ × Session)) → session_of conn ((conn, x) ∷ others) ≡ x
 session-here conn x others = let same : nat_eq conn conn ≡ true = eq-eqb conn conn refl in rw same refl
 
 session-there : (conn other : ℕ) (x : Session) (others : List (ℕ × Session)) → other ≢ conn

@@ -19,7 +19,8 @@ use Rattle.hb_house.specs.ClerkStops.{LoadStops, RoundStops, SaveStops, SettleSt
 use Rattle.hb_house.specs.KeeperSteps.{Failed, FailedOn, FaultLeaves, IsSure, IsSureOf, Telling, next_failure}
 use Rattle.hb_house.proofs.GoesOnLemmas.{all-on, asks-on, goes_on-same, goes_on-trans, others-on, settle_stops-on, settles-on}
 use Rattle.hb_house.proofs.KeeperStepsLemmas.{worked_sure}
-use Rattle.hb_house.proofs.RoundLemmas.{loads-sure, saves-sure}
+use Rattle.hb_house.proofs.RoundLemmas.{saves-sure}
+use Rattle.hb_house.proofs.RoundsLemmas.{rounds-sure}
 use Rattle.hb_talk.specs.declared.errands.Errand.{Errand}
 use Rattle.hb_talk.specs.declared.errands.Errand.TheVariants as errand
 use Rattle.hb_talk.specs.declared.scripts.ScriptLine.{ScriptLine}
@@ -131,22 +132,6 @@ failed_sure : {A : Type 0} (sure : Type 0) (refusal : KeepError) (work : Content
     → Failed refusal work c d → IsSure sure c → IsSure sure d
 failed_sure sure refusal work c d failed at =
     failed_sure_of sure refusal (next_failure c.plan) work c.content d.content failed.content at
-
-round-sure : (sure : Type 0) (alone : Bool) (s : Site) (moment : ℕ) (old new : List RoomEvent) (c d : Telling) (r t : Report)
-    → Round alone s moment old new c d r t → IsSure sure c → IsSure sure d
-round-sure sure alone s moment old new c d r t round at =
-    let due = round.settles in
-    loads-sure sure alone s moment round.asks.todo.load due.middle new due.between d due.report t due.loads
-    (saves-sure sure alone s moment round.asks.todo.save (AsksTodo moment ∷ round.asks.others ++ old) due.middle c due.between r
-    due.report due.saves at)
-
-rounds-sure : (sure : Type 0) (alone : Bool) (h : House) (moment : ℕ) (p : Place) (n : ℕ) (q : Place) → Rounds alone h moment p n q
-    → IsSure sure p.keeper → IsSure sure q.keeper
-rounds-sure sure alone h moment p zero q same at = subst (IsSure sure) (sym same.keeper) at
-rounds-sure sure alone h moment p (suc n) q more at =
-    let b : Place = more.before in
-    round-sure sure alone (site_of h (suc n)) moment (b.fronts.rooms (suc n)) (q.fronts.rooms (suc n)) b.keeper q.keeper b.report
-    q.report more.last.step (rounds-sure sure alone h moment p n b more.rounds at)
 
 save_stops-sure : (sure : Type 0) (alone : Bool) (save : Option (Key × GameRow)) (why : ClerkError) (old new : List RoomEvent)
     (c d : Telling) (r t : Report) → SaveStops alone save why old new c d r t → IsSure sure c → IsSure sure d

@@ -1,7 +1,6 @@
 -- What does the clerk do in the round of one room, if nobody else comes to it, and the keeper tells what it contains and which of
 -- its calls fail? What the definition of the lone clerk says.
-use Rattle.std.proofs.Common.{◌≡◌, ◌≢◌, ℕ, ◌+◌, Bool, true, false, List, [], ◌∷◌, ◌++◌, refl, sym, ap, subst, ◌∙◌, arith, nat_eq, eq-eqb, inl, inr, Some, None, Ok, Err}
-use Rattle.std.proofs.lemmas.Bool.Decides.{nat_tests}
+use Rattle.std.proofs.Common.{◌≡◌, ◌≢◌, ℕ, ◌+◌, Bool, true, false, List, [], ◌∷◌, ◌++◌, refl, sym, ap, subst, ◌∙◌, inl, inr, Some, None, Ok, Err}
 use Rattle.std.specs.Prelude.{◌⊎◌, Option, Result, option_map}
 use Rattle.hb_keeper.specs.declared.errors.KeepError.{KeepError}
 use Rattle.hb_keeper.specs.declared.errors.KeepError.TheVariants as keep
@@ -13,7 +12,7 @@ use Rattle.hb_club.specs.declared.clerks.ClerkNote.TheVariants as note
 use Rattle.hb_club.specs.declared.clerks.Noted.{Noted}
 use Rattle.hb_club.specs.declared.clerks.Noted.TheVariants as noted
 use Rattle.hb_club.specs.declared.clerks.Todo.{Todo}
-use Rattle.hb_club.specs.Fronts.{Fronts, House, site_of, with_event}
+use Rattle.hb_club.specs.Fronts.{Fronts, House, site_of}
 use Rattle.hb_club.specs.RoomEvents.{Added, AsksTodo, Due, Outcome, RoomEvent, Site, note_event}
 use Rattle.hb_club.specs.Rooms.{answer_to}
 use Rattle.hb_house.specs.declared.reports.ClerkError.{ClerkError}
@@ -24,6 +23,7 @@ use Rattle.hb_house.specs.ClerkRounds.{Loads, LoadsGame, Round, Saves, SavesGame
 use Rattle.hb_house.specs.ClerkStops.{LoadStops, RoundStops, SaveStops, SettleStops}
 use Rattle.hb_house.specs.KeeperSteps.{Failed, Telling, Worked}
 use Rattle.hb_house.proofs.NotedLemmas.{notes-add}
+use Rattle.hb_house.proofs.PlainStandsLemmas.{with_event-here, with_event-there}
 use Rattle.hb_talk.specs.Keeping.{Keeping, keeper_call}
 use Rattle.hb_talk.specs.LoneClerk.{Round as LoneRound, counted, does, loaded_by, loads_unless, noted_in, noting, room_answer, saved_by, saves, todo_in, visit_unless, with_call, with_keeping}
 use Rattle.hb_run.specs.LoneRuns.{telling}
@@ -50,18 +50,12 @@ pub record IsAtRoomBy (planned : Bool) (why : Option KeepError) (room : ℕ) (st
 
 -- steps
 
-pub with_call-here : (room : ℕ) (e : RoomEvent) (f : Fronts) → (with_event room e f).rooms room ≡ e ∷ f.rooms room
-with_call-here room e f = let same : nat_eq room room ≡ true = eq-eqb room room refl in rw same refl
-
-pub with_call-there : (room other : ℕ) (e : RoomEvent) (f : Fronts) → other ≢ room → (with_event room e f).rooms other ≡ f.rooms other
-with_call-there room other e f apart = let no : nat_eq other room ≡ false = grind (arith, nat_tests) in rw no refl
-
 -- one event more
 called : (planned : Bool) (room : ℕ) (start r : LoneRound) (e : RoomEvent) (events : List RoomEvent) (c : Telling) (t : Report)
     → IsAtRoom planned room start r events c t → IsAtRoom planned room start (with_call room e r) (e ∷ events) c t
 called planned room start r e events c t at = record {
-  here = ap (λ (l : List RoomEvent). e ∷ l) at.here ∙ sym (with_call-here room e r.fronts);
-  rest = (λ other apart. with_call-there room other e r.fronts apart ∙ at.rest other apart);
+  here = ap (λ (l : List RoomEvent). e ∷ l) at.here ∙ sym (with_event-here room e r.fronts);
+  rest = (λ other apart. with_event-there room other e r.fronts apart ∙ at.rest other apart);
   lobby = at.lobby;
   keeper = at.keeper;
   plan = at.plan;
@@ -248,7 +242,7 @@ asked-here : (h : House) (room moment : ℕ) (start : LoneRound) (others : List 
 asked-here h room moment start others todo old none is answer =
     let events : AsksTodo moment ∷ others ++ old ≡ (with_call room (AsksTodo moment) start).fronts.rooms room =
     ap (λ (l : List RoomEvent). AsksTodo moment ∷ l ++ old) none
-    ∙ (ap (λ (l : List RoomEvent). AsksTodo moment ∷ l) is ∙ sym (with_call-here room (AsksTodo moment) start.fronts)) in
+    ∙ (ap (λ (l : List RoomEvent). AsksTodo moment ∷ l) is ∙ sym (with_event-here room (AsksTodo moment) start.fronts)) in
     ap todo_in (ap (answer_to (site_of h room)) (sym events) ∙ answer)
 
 pub round-here : (planned : Bool) (h : House) (room moment : ℕ) (start : LoneRound) (old new : List RoomEvent) (c d : Telling)

@@ -4,6 +4,7 @@ use Rattle.std.proofs.lemmas.Bool.{eqb-false}
 use Rattle.std.proofs.lemmas.Bool.Decides.{nat_tests}
 use Rattle.std.proofs.lemmas.List.{reverse-append, take-append-le}
 use Rattle.std.proofs.lemmas.Option.{get_or_from_slice_get, slice_get_within}
+use Rattle.std.proofs.Math.Bool.{or-false, or-true}
 use Rattle.std.specs.Io.KnownBytes.{Appends}
 use Rattle.std.specs.Prelude.{Option, slice_get}
 use Rattle.hb_io.specs.declared.got.Got.{Got}
@@ -18,6 +19,7 @@ use Rattle.hb_club.specs.Views.{view_at}
 use Rattle.hb_house.specs.declared.reports.Report.{Report}
 use Rattle.hb_house.specs.ClerkReports.{by_keeper}
 use Rattle.hb_house.specs.ClerkRounds.{begun}
+use Rattle.hb_house.proofs.PlainStandsLemmas.{with_event-here, with_event-there}
 use Rattle.hb_talk.specs.declared.errands.Errand.{Errand}
 use Rattle.hb_talk.specs.declared.errands.Errand.TheVariants as errand
 use Rattle.hb_talk.specs.declared.scripts.ScriptLine.{ScriptLine}
@@ -33,7 +35,6 @@ use Rattle.hb_run.specs.RunLines.{ClerkFaults, ClerkHalts, ClerkRuns, LineRuns, 
 use Rattle.hb_run.specs.ScriptRuns.{ClerkEnds, Runs}
 use Rattle.hb_run.specs.WrittenFronts.{AppendsFront}
 use Rattle.hb_run.proofs.ToldCallsLemmas.{IsKnown}
-use Rattle.hb_run.proofs.LoneRoomsLemmas.{with_call-here, with_call-there}
 use Rattle.hb_run.proofs.LoneRoundsLemmas.{IsLone, IsLoneBy, halts-lone, rounds-lone}
 
 -- a line of a script wrote this text and came to the state of a run, stopped for this cause
@@ -58,14 +59,6 @@ report-is t r saved loaded missing =
     ++ (codes " missing " ++ (decimal n ++ codes "\n")))))) missing
     ∙ sym (seven-are (codes "clerk saved ") (decimal r.saved) (codes " loaded ") (decimal r.loaded) (codes " missing ") (decimal r.missing)
     (codes "\n"))))
-
-or-false : (b : Bool) → (b || false) ≡ b
-or-false true = refl
-or-false false = refl
-
-or-true : (b : Bool) → (b || true) ≡ true
-or-true true = refl
-or-true false = refl
 
 -- what is done behind the clerk's way, which was refused so
 abbrev ran_by : Stage → LoneRound → Option KeepError → Ran
@@ -167,10 +160,10 @@ room-called true room event f g stood same takes = record {
         let own : g.rooms room ≡ event ∷ stood.rooms room =
         takes.front ∙ (ap (λ (l : List RoomEvent). event ∷ l ++ f.rooms room) (takes.quiet refl)
         ∙ ap (λ (l : List RoomEvent). event ∷ l) (same.rooms room)) in
-        rw place (own ∙ sym (with_call-here room event stood))
+        rw place (own ∙ sym (with_event-here room event stood))
     by other false at =
         let apart : other ≢ room = eqb-false other room at in
-        takes.rest.rooms other apart ∙ (same.rooms other ∙ sym (with_call-there room other event stood apart))
+        takes.rest.rooms other apart ∙ (same.rooms other ∙ sym (with_event-there room other event stood apart))
 room-called false room event f g stood same waits = record {
   rooms = (λ other. by other (nat_eq other room) refl);
   lobby = waits.rest.lobby ∙ same.lobby;

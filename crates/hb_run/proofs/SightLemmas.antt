@@ -17,13 +17,13 @@ use Rattle.hb_club.specs.Views.{own_at, view_at}
 use Rattle.hb_club.specs.WholeGames.{BringWhole}
 use Rattle.hb_club.proofs.SeenTableLemmas.{answer-seen}
 use Rattle.hb_club.proofs.TableInvariantLemmas.{past_of-facts, timed_table-is}
+use Rattle.hb_house.proofs.PlainStandsLemmas.{with_event-here}
 use Rattle.hb_talk.specs.declared.errands.Errand.{Errand}
 use Rattle.hb_talk.specs.declared.errands.Errand.TheVariants as errand
 use Rattle.hb_talk.specs.Scripts.{fronts_after}
 use Rattle.hb_talk.specs.Turns.{Heard, heard, heard_when}
 use Rattle.hb_talk.specs.Turns as talk
 use Rattle.hb_run.specs.ConnSights.{EntrySight, FromLobby, FromRoom, NoRoom, Sight, Silence, own_sight, own_sights, sight, sight_when}
-use Rattle.hb_run.proofs.LoneRoomsLemmas.{with_call-here}
 
 -- replies
 
@@ -137,7 +137,7 @@ room-heard : (h : House) (room : ℕ) (e : Entry) (f : Fronts) → BringWhole (f
 room-heard h room e f whole =
     let s : Site = site_of h room in
     let events : List RoomEvent = f.rooms room in
-    let list : (with_event room (Call e) f).rooms room ≡ Call e ∷ events = with_call-here room (Call e) f in
+    let list : (with_event room (Call e) f).rooms room ≡ Call e ∷ events = with_event-here room (Call e) f in
     let own : bytes_eq e.member e.member ≡ true = (bytes_eq-Decides e.member e.member).1 refl in
     let older : List EntrySight = own_sights s events e.member in
     let latest : ℕ = (table_at s events).latest in

@@ -1,6 +1,7 @@
 -- What does a loaded game write?
-use Rattle.std.proofs.Common.{◌≡◌, ℕ, Bool, true, false, List, [], ◌∷◌, ◌++◌, refl, ap, sym, subst, ◌∙◌, append_assoc, Option, Some, None}
-use Rattle.std.specs.Prelude.{◌||◌, is_some, unwrap_or}
+use Rattle.std.proofs.Common.{◌≡◌, ℕ, true, List, [], ◌∷◌, ◌++◌, refl, ap, sym, subst, ◌∙◌, append_assoc, Option, Some, None}
+use Rattle.std.specs.Prelude.{is_some, unwrap_or}
+use Rattle.std.proofs.Math.Bool.{or-true}
 use Rattle.hb_rules.specs.Observed.{Observed, observed}
 use Rattle.hb_rules.specs.Setup.{Position}
 use Rattle.hb_wire.specs.declared.lines.WireLine.TheVariants as wire
@@ -18,10 +19,6 @@ use Rattle.hb_view.specs.StreamViews.{IsStream}
 use Rattle.hb_view.specs.Writing.{Writes}
 use Rattle.hb_view.proofs.ShownGameLemmas.{not-both, some-none}
 use Rattle.hb_view.proofs.StartTextLemmas.{head-shown}
-
-or-true : (b : Bool) → (b || true) ≡ true
-or-true true = refl
-or-true false = refl
 
 -- items have a load behind any
 has-loaded : (more before : List Item) (moment id : ℕ)

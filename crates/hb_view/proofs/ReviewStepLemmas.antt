@@ -1,6 +1,7 @@
 -- Which game does a step of a review show?
 use Rattle.std.proofs.Common.{◌≡◌, ℕ, zero, suc, ◌+◌, ◌-◌, ◌≤◌, Bool, true, false, List, [], ◌∷◌, refl, ap, sym, subst, ◌∙◌, arith, length, length-drop, drop, Option, Some, None}
-use Rattle.std.specs.Prelude.{nat_lt, option_map, unwrap_or}
+use Rattle.std.specs.Prelude.{nat_lt, option_map}
+use Rattle.std.proofs.lemmas.Option.{same_Some}
 use Rattle.hb_rules.specs.declared.acts.Action.{Action}
 use Rattle.hb_rules.specs.declared.acts.Rule.{Rule}
 use Rattle.hb_rules.specs.Positions.{after, current, rule}
@@ -22,9 +23,6 @@ pub record StepFacts (game : Position) (taken : List Step) (step : Step) : Type 
   pub few : step.action ≡ None → step.hypos ≤ length (hypotheticals taken)
   pub tried : (a : Action) → step.action ≡ Some a → (step.turn ≡ turn_of game taken) × (hypo_rule game taken a ≡ None)
 
-same-some : {A : Type 0} {x y : A} → Some x ≡ Some y → x ≡ y
-same-some {A} {x} e = ap (λ (o : Option A). unwrap_or o x) e
-
 -- a turn that is not refused is one of the game
 go-within : (game : Position) (turn : ℕ) → go_refusal game turn ≡ None → turn ≤ length game.past
 go-within game turn e = pick (nat_lt (length game.past) turn) refl
@@ -42,7 +40,7 @@ facts-of : (game : Position) (taken : List Step) (c : Command) (step : Step) →
     → step_of (Some game) taken c ≡ Some step → StepFacts game taken step
 facts-of game taken (command.Go turn) step may is =
     let P : Step → Type 0 = StepFacts game taken in
-    subst P (same-some is) (record {
+    subst P (same_Some _ _ is) (record {
       within = λ low. go-within game turn may;
       stays = λ some. absurd (some refl);
       few = λ e. omega arith;
@@ -51,15 +49,15 @@ facts-of game taken (command.Go turn) step may is =
 facts-of game taken (command.Hypo action) step may is =
     let P : Step → Type 0 = StepFacts game taken in
     let fine : hypo_rule game taken action ≡ None = not-broken (hypo_rule game taken action) may in
-    subst P (same-some is) (record {
+    subst P (same_Some _ _ is) (record {
       within = λ low. low;
       stays = λ some. refl;
       few = λ e. absurd (some-none e);
-      tried = λ a e. (refl, subst (λ (x : Action). hypo_rule game taken x ≡ None) (same-some e) fine);
+      tried = λ a e. (refl, subst (λ (x : Action). hypo_rule game taken x ≡ None) (same_Some _ _ e) fine);
     })
 facts-of game taken command.Undo step may is =
     let P : Step → Type 0 = StepFacts game taken in
-    subst P (same-some is) (record {
+    subst P (same_Some _ _ is) (record {
       within = λ low. low;
       stays = λ some. refl;
       few = λ e. omega arith;

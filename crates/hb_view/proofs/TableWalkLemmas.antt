@@ -1,7 +1,7 @@
 -- Do ended games stay as they are, and may each step of a review be taken? Yes, at the latest table of each room.
 use Rattle.std.proofs.Common.{◌≡◌, ℕ, ◌+◌, ◌≤◌, Bool, true, false, List, [], ◌∷◌, ◌++◌, refl, ap, sym, subst, ◌∙◌, length, Some, None, Option}
 use Rattle.std.specs.Prelude.{⊤, ◌&&◌, ◌||◌, not, if◌then◌else◌, is_some, nat_le, option_map, unwrap_or}
-use Rattle.std.proofs.lemmas.Bool.{and_parts, or_parts}
+use Rattle.std.proofs.lemmas.Bool.{and_parts, not-false, not-true, or_parts}
 use Rattle.hb_rules.specs.declared.acts.Act.{Act}
 use Rattle.hb_rules.specs.declared.acts.Action.{Action}
 use Rattle.hb_rules.specs.declared.acts.Action.TheVariants as action
@@ -250,14 +250,6 @@ legal-runs t who a legal g e = pick (is_some (ended g (acts t.items))) refl
     pick false over = refl
     pick true over = absurd (some-none (sym (ended_is_over g (acts t.items) who a over) ∙ none))
 
-not-false : (b : Bool) → not b ≡ false → b ≡ true
-not-false true h = refl
-not-false false h = absurd (not-both refl h)
-
-true-not : (b : Bool) → not b ≡ true → b ≡ false
-true-not true h = absurd (not-both h refl)
-true-not false h = refl
-
 -- what an accepted entry leaves that opens no table
 pub entry-walks : (s : Site) (t : Table) (own : List OwnEntry) (e : Entry) (c : Command) (moment : ℕ) → t.game ≡ setup_at s t t.items
     → is_open c ≡ false → AreInOrder t.items → Walks t.loaded (setup_at s t t.items) t.items
@@ -337,7 +329,7 @@ entry-walks s t own e command.Resume moment game opens order before taken =
     (and_parts _ _ (not-false (is_paused t) row)).1 in
     let on : not (is_stopped (game_calls t.game t.items)) ≡ true = (and_parts _ _ halted).1 in
     record {
-      stopped = λ g is ends. absurd (not-both (before.stopped g is ends) (true-not _ (rw (game ∙ is) at on)));
+      stopped = λ g is ends. absurd (not-both (before.stopped g is ends) (not-true _ (rw (game ∙ is) at on)));
       runs = λ g e. (tt, before.runs g e);
       walks = stays-walks t.loaded (setup_at s t t.items) (item_at moment (what.Resumed e.member)) t.items
           (steps t.items) refl before.walks;
