@@ -10,11 +10,12 @@ ghost use Rattle.hb_talk.specs.Turns.{bound_name, reply_lines};
 ghost use Rattle.hb_desk.specs.AnswerSteps.{Follows, Wrote};
 
 use crate::Desk;
-use crate::replies::{lobby_of, push_line, reply_of};
+use crate::replies::{lobby_of, reply_of};
 use crate::streams::{marks_at, push_stream};
 use hb_club::{Answered, Command, Entry, LobbyReply};
 use hb_io::{Name, Texts};
 use hb_talk::{Session, TurnError};
+use hb_view::push_line;
 use std::alloc::{AllocError, Global};
 
 /// Appends the line that answers a request; a look has none.

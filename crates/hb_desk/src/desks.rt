@@ -11,13 +11,13 @@ ghost use Rattle.hb_desk.specs.DeskTurns.{GoesTo, IsWornFor, next_of};
 
 use crate::answers::{write_answer, write_reply};
 use crate::errands::errand;
-use crate::replies::{denied, push_line};
+use crate::replies::denied;
 use crate::streams::seen_at;
 use hb_club::{Entry, HallError, LobbyEntry, Viewer};
 use hb_house::Hall;
 use hb_io::{Got, Texts};
 use hb_talk::{Denial, Errand, Next, Session, TurnError};
-use hb_view::Cursor;
+use hb_view::{Cursor, push_line};
 use hb_wire::WireLine;
 use std::alloc::Global;
 

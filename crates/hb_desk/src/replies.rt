@@ -1,23 +1,13 @@
 //! Which line answers a request?
 
-ghost use Rattle.std.specs.Prelude.{◌≡◌, [], ◌∷◌, ◌++◌, OnOk};
+ghost use Rattle.std.specs.Prelude.{◌≡◌};
 ghost use Rattle.hb_wire.specs.WireLine.{line_text};
 ghost use Rattle.hb_talk.specs.Replies.{denied_line, latest_in, lobby_line, reply_line, review_in, rule_in};
 
 use hb_club::{LobbyReply, Refusal, Reply};
-use hb_io::Texts;
 use hb_review::ReviewError;
 use hb_talk::Denial;
-use hb_wire::{WireLine, print_line};
-use std::alloc::{AllocError, Global};
-
-/// Appends the text of a line.
-pub(crate) fn push_line(sent: &mut Texts, alloc: Global, line: &WireLine) -> Result<(), AllocError>
-    ensures { OnOk result (sent.new ≡ sent.old ++ line_text line.now ∷ []) }
-{
-    let text = print_line(alloc, line)?;
-    sent.push(text)
-}
+use hb_wire::WireLine;
 
 /// The latest table, if the refusal of an old one names it.
 fn latest(why: Refusal) -> Option<u32>

@@ -7,11 +7,10 @@ ghost use Rattle.hb_talk.specs.Sessions.{marks_after, seen_of};
 ghost use Rattle.hb_talk.specs.Streams.{role_of};
 ghost use Rattle.hb_desk.specs.AnswerSteps.{Follows, Wrote, goes_on};
 
-use crate::replies::push_line;
 use hb_club::{Answered, Seen, Viewer};
 use hb_io::Texts;
 use hb_talk::Marks;
-use hb_view::{Cursor, pump};
+use hb_view::{Cursor, pump, push_line};
 use hb_wire::{Role, WireLine};
 use std::alloc::{AllocError, Global};
 

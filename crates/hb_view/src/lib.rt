@@ -36,3 +36,4 @@ mod texts;
 pub use cursors::Cursor;
 pub use laws::views_are_streams;
 pub use pumps::pump;
+pub use texts::push_line;

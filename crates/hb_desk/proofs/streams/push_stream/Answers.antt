@@ -26,4 +26,4 @@ returns c = λ w follows.
     let line = c.in_ok-push_line.ensures
     ∙ ap (λ (r : Role). c.args.sent.now ++ line_text (wire.Viewer r c.args.room a.table) ∷ []) c.role.ensures in
     wrote-anew w a c.args.marks c.args.room c.args.cursor.now c.new-left.result c.pump-2.new.cursor c.args.sent.now
-    c.push_line.new.sent c.pump-2.new.out off some line c.new-left.ensures c.in_ok-pump-2.ensures.ok follows
+    c.push_line.new.out c.pump-2.new.out off some line c.new-left.ensures c.in_ok-pump-2.ensures.ok follows
