@@ -85,7 +85,8 @@ rows_on-loading x loading kept count broken review e other = by (is_for_beginnin
         let some : is_none (first_reply (serial_rows_on x kept count e)) ≡ false =
         serial_rows_on-elsewhere x kept count e elsewhere (beginning-for-host e.command begins).1 in
         first_reply-append (serial_rows_on with_load kept count e) (start_rows_on with_load e.command ++ behind with_load)
-        ∙ option_or-some (first_reply (serial_rows_on x kept count e)) (first_reply (start_rows_on with_load e.command ++ behind with_load)) some
+        ∙ option_or-some (first_reply (serial_rows_on x kept count e))
+        (first_reply (start_rows_on with_load e.command ++ behind with_load)) some
         ∙ sym (first_reply-append (serial_rows_on x kept count e) (start_rows_on x e.command ++ behind x)
         ∙ option_or-some (first_reply (serial_rows_on x kept count e)) (first_reply (start_rows_on x e.command ++ behind x)) some)
     by true begins true here =
