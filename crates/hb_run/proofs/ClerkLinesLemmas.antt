@@ -28,7 +28,7 @@ use Rattle.hb_run.proofs.LinesGoOnLemmas.{halts-on, rounds-on}
 abbrev ran_to : (Stands : Fronts → Type 0) (Tells : Telling → Type 0) (h : House) (count : ℕ) (alone : Bool) (moment : ℕ)
     (s : RunState) (report : Report) → AllRounds Stands Tells alone h count moment s.fronts s.keeper report → RunState
 ran_to Stands Tells h count alone moment s report all =
-    record { fronts = all.after; keeper = all.keeper; sessions = s.sessions; faulted = s.faulted }
+    record s { fronts = all.after; keeper = all.keeper }
 
 ran-at : (Stands : Fronts → Type 0) (Tells : Telling → Type 0) (h : House) (count : ℕ) (alone : Bool) (moment : ℕ) (s : RunState)
     (report : Report) (run : ScriptRun) (all : AllRounds Stands Tells alone h count moment s.fronts s.keeper report) → Holds h run s
@@ -38,7 +38,7 @@ ran-at Stands Tells h count alone moment s report run all holds =
     let on = rounds-on alone h moment (begun s.fronts s.keeper) count (place_of t report) all.rounds in
     record {
       outside = record { stands_for = all.stands_for; told = all.told };
-      inside = record { desks = desks-on h s t run.desks.items on refl holds.desks; faulted = holds.faulted };
+      inside = record { desks = desks-on h s t run.desks.items on refl holds.desks; faulted = holds.faulted; bytes = holds.bytes };
     }
 
 pub tended : (Stands : Fronts → Type 0) (Tells : Telling → Type 0) (h : House) (count : ℕ) (alone : Bool) (moment : ℕ) (s : RunState)
@@ -48,7 +48,7 @@ pub tended : (Stands : Fronts → Type 0) (Tells : Telling → Type 0) (h : Hous
 tended Stands Tells h count alone moment s report run b a holds all wrote = record {
   state = ran_to Stands Tells h count alone moment s report all;
   text = report_line report;
-  runs = inl (record { report = report; rounds = all.rounds; sessions = refl; faulted = refl; tells = refl });
+  runs = inl (record { report = report; rounds = all.rounds; sessions = refl; faulted = refl; bytes = refl; tells = refl });
   left = ran-at Stands Tells h count alone moment s report run all holds;
   written = wrote;
 }
@@ -61,7 +61,7 @@ tended-cut Stands Tells h count alone moment s report run b a why holds all cut 
   writing = cut.0;
   state = ran_to Stands Tells h count alone moment s report all;
   text = report_line report;
-  runs = inl (record { report = report; rounds = all.rounds; sessions = refl; faulted = refl; tells = refl });
+  runs = inl (record { report = report; rounds = all.rounds; sessions = refl; faulted = refl; bytes = refl; tells = refl });
   left = ran-at Stands Tells h count alone moment s report run all holds;
   written = cut.1;
 })
@@ -73,21 +73,21 @@ abbrev stopped_at : (Stands : Fronts → Type 0) (Tells : Telling → Type 0) (h
     (s : RunState) (report : Report) (why : ClerkError) (faulted : Bool)
     → Stopped Stands Tells alone h count moment s.fronts s.keeper report why → RunState
 stopped_at Stands Tells h count alone moment s report why faulted some =
-    record { fronts = some.after; keeper = some.keeper; sessions = s.sessions; faulted = faulted }
+    record s { fronts = some.after; keeper = some.keeper; faulted = faulted }
 
 halts-to : (Stands : Fronts → Type 0) (Tells : Telling → Type 0) (h : House) (count : ℕ) (alone : Bool) (moment : ℕ) (s : RunState)
     (report : Report) (why : ClerkError) (faulted : Bool)
     (some : Stopped Stands Tells alone h count moment s.fronts s.keeper report why)
     → ClerkHalts h count alone moment why s (stopped_at Stands Tells h count alone moment s report why faulted some)
 halts-to Stands Tells h count alone moment s report why faulted some =
-    record { report = report; done = some.done; within = some.within; rounds = some.rounds; sessions = refl }
+    record { report = report; done = some.done; within = some.within; rounds = some.rounds; sessions = refl; bytes = refl }
 
 stopped-at : (Stands : Fronts → Type 0) (Tells : Telling → Type 0) (h : House) (count : ℕ) (alone : Bool) (moment : ℕ) (s : RunState)
     (report : Report) (why : ClerkError) (run next : ScriptRun)
     (some : Stopped Stands Tells alone h count moment s.fronts s.keeper report why) → Holds h run s
-    → next.desks.items ≡ run.desks.items
+    → next.desks.items ≡ run.desks.items → next.bytes ≡ run.bytes
     → IsAt Stands Tells h next (stopped_at Stands Tells h count alone moment s report why next.failed some)
-stopped-at Stands Tells h count alone moment s report why run next some holds same =
+stopped-at Stands Tells h count alone moment s report why run next some holds same bytes =
     let t : RunState = stopped_at Stands Tells h count alone moment s report why next.failed some in
     let on = halts-on h count alone moment why s t (halts-to Stands Tells h count alone moment s report why next.failed some) in
     record {
@@ -95,15 +95,16 @@ stopped-at Stands Tells h count alone moment s report why run next some holds sa
       inside = record {
         desks = subst (AreDesks h t) (sym same) (desks-on h s t run.desks.items on refl holds.desks);
         faulted = refl;
+        bytes = bytes ∙ holds.bytes;
       };
     }
 
 -- at a fault of the keeper
 pub faulted : (Stands : Fronts → Type 0) (Tells : Telling → Type 0) (h : House) (count : ℕ) (alone : Bool) (moment : ℕ) (s : RunState)
     (report : Report) (run next : ScriptRun) (b a : Option (List ℕ)) → Holds h run s → next.desks.items ≡ run.desks.items
-    → next.failed ≡ true → Stopped Stands Tells alone h count moment s.fronts s.keeper report clerk.KeeperFault
+    → next.bytes ≡ run.bytes → next.failed ≡ true → Stopped Stands Tells alone h count moment s.fronts s.keeper report clerk.KeeperFault
     → Appends b a fault_line → RunsLine (IsAt Stands Tells h next) h count alone (line.Clerk moment) s b a
-faulted Stands Tells h count alone moment s report run next b a holds same failed some wrote = record {
+faulted Stands Tells h count alone moment s report run next b a holds same bytes failed some wrote = record {
   state = stopped_at Stands Tells h count alone moment s report clerk.KeeperFault next.failed some;
   text = fault_line;
   runs = inr (record {
@@ -111,17 +112,17 @@ faulted Stands Tells h count alone moment s report run next b a holds same faile
     faulted = failed;
     tells = refl;
   });
-  left = stopped-at Stands Tells h count alone moment s report clerk.KeeperFault run next some holds same;
+  left = stopped-at Stands Tells h count alone moment s report clerk.KeeperFault run next some holds same bytes;
   written = wrote;
 }
 
 pub faulted-cut : (Stands : Fronts → Type 0) (Tells : Telling → Type 0) (h : House) (count : ℕ) (alone : Bool) (moment : ℕ)
     (s : RunState) (report : Report) (run next : ScriptRun) (b a : Option (List ℕ)) (why : RunEnd) → Holds h run s
-    → next.desks.items ≡ run.desks.items → next.failed ≡ true
+    → next.desks.items ≡ run.desks.items → next.bytes ≡ run.bytes → next.failed ≡ true
     → Stopped Stands Tells alone h count moment s.fronts s.keeper report clerk.KeeperFault
     → IsWriteEnd why × AppendsFront b a fault_line
     → StopsLine (IsAt Stands Tells h next) h count alone (line.Clerk moment) s b a why
-faulted-cut Stands Tells h count alone moment s report run next b a why holds same failed some cut = inr (record {
+faulted-cut Stands Tells h count alone moment s report run next b a why holds same bytes failed some cut = inr (record {
   writing = cut.0;
   state = stopped_at Stands Tells h count alone moment s report clerk.KeeperFault next.failed some;
   text = fault_line;
@@ -130,7 +131,7 @@ faulted-cut Stands Tells h count alone moment s report run next b a why holds sa
     faulted = failed;
     tells = refl;
   });
-  left = stopped-at Stands Tells h count alone moment s report clerk.KeeperFault run next some holds same;
+  left = stopped-at Stands Tells h count alone moment s report clerk.KeeperFault run next some holds same bytes;
   written = cut.1;
 })
 
@@ -145,7 +146,7 @@ halted Stands Tells h count alone moment s report cause why run b go holds some 
     let t : RunState = stopped_at Stands Tells h count alone moment s report cause run.failed some in
     inl (record {
       rest = t;
-      left = stopped-at Stands Tells h count alone moment s report cause run run some holds refl;
+      left = stopped-at Stands Tells h count alone moment s report cause run run some holds refl refl;
       halts = go t (record {
         moment = moment;
         is = refl;

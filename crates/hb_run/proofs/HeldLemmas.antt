@@ -53,11 +53,11 @@ desks-set h s t desks conn old new on rest each was now k d is = by (nat_eq k co
 
 -- a turn of one connection
 
-pub desks-turned : (h : House) (s : RunState) (f : Fronts) (x : Session) (desks : List Desk) (conn : ℕ) (old new : Desk)
+pub desks-turned : (h : House) (s : RunState) (f : Fronts) (x : Session) (bytes : ℕ) (desks : List Desk) (conn : ℕ) (old new : Desk)
     → AllGoOn s.fronts f → AreDesks h s desks → slice_get desks conn ≡ Some old → desk_session new ≡ x → DeskFits h f new
-    → AreDesks h (record { fronts = f; keeper = s.keeper; sessions = (conn, x) ∷ s.sessions; faulted = s.faulted }) (set desks conn new)
-desks-turned h s f x desks conn old new on each was is fits =
-    let t : RunState = record { fronts = f; keeper = s.keeper; sessions = (conn, x) ∷ s.sessions; faulted = s.faulted } in
+    → AreDesks h (record s { fronts = f; sessions = (conn, x) ∷ s.sessions; bytes = bytes }) (set desks conn new)
+desks-turned h s f x bytes desks conn old new on each was is fits =
+    let t : RunState = record s { fronts = f; sessions = (conn, x) ∷ s.sessions; bytes = bytes } in
     desks-set h s t desks conn old new on (λ other apart. session-there conn other x s.sessions apart) each was
     (record { session = is ∙ sym (session-here conn x s.sessions); fits = fits })
 

@@ -1,5 +1,5 @@
 -- What does a turn of a session say of a line of a script?
-use Rattle.std.proofs.Common.{◌≡◌, ℕ, Bool, List, [], ◌∷◌, refl, sym, ap, subst, ◌∙◌, set, inl, inr, Some}
+use Rattle.std.proofs.Common.{◌≡◌, ℕ, ◌+◌, Bool, List, [], ◌∷◌, refl, sym, ap, subst, ◌∙◌, arith, set, inl, inr, min, Some}
 use Rattle.std.proofs.KnownBytes.{Appends-nil}
 use Rattle.std.specs.Io.KnownBytes.{Appends}
 use Rattle.std.specs.Prelude.{◌⊎◌, IfErr, OnOk, Option, Result, Ok, Err, slice_get}
@@ -19,8 +19,8 @@ use Rattle.hb_desk.specs.DeskTurns.{GoesTo}
 use Rattle.hb_run.specs.declared.ends.RunEnd.{RunEnd}
 use Rattle.hb_run.specs.declared.ends.RunEnd.TheVariants.{KeyDiffers, NoMemory, UsedUp, WriteFault, Worn}
 use Rattle.hb_run.specs.declared.held.ScriptRun.{ScriptRun}
-use Rattle.hb_run.specs.HeldRuns.{AreDesks, FromEach, Holds, IsAt}
-use Rattle.hb_run.specs.RunLines.{LineRuns, RunState, TurnRuns}
+use Rattle.hb_run.specs.HeldRuns.{AreDesks, FromEach, Holds, IsAt, MOST_BYTES}
+use Rattle.hb_run.specs.RunLines.{LineRuns, RunState, TurnRuns, text_bytes}
 use Rattle.hb_run.specs.RunSteps.{AnyTelling, CutsLine, HaltsLine, RunsLine, StopsLine}
 use Rattle.hb_run.specs.ScriptRuns.{HaltsBy}
 use Rattle.hb_run.specs.WrittenFronts.{AppendsFront, IsWriteEnd}
@@ -33,6 +33,16 @@ abbrev TurnFrom : {S : Type 0} (stands : S → Fronts → Type 0) (h : House) (c
 TurnFrom stands h count alone hall s moment got texts old new =
     DeskTurned stands h count alone hall s.fronts old (asked (desk_session old) moment got) [] texts new
 
+-- a count, and more
+counted : (bytes more held now : ℕ) → held ≡ min bytes MOST_BYTES → now ≡ min (held + more) MOST_BYTES → now ≡ min (bytes + more) MOST_BYTES
+counted bytes more held now was is = omega (arith, was, is)
+
+-- what a turn leaves of a run: this session anew, and the count with its texts
+pub record Turned (run next : ScriptRun) (conn : ℕ) (texts : List (List ℕ)) (new : Desk) : Type 0 where
+  pub desks : next.desks.items ≡ set run.desks.items conn new
+  pub failed : next.failed ≡ run.failed
+  pub bytes : next.bytes ≡ min (run.bytes + text_bytes texts) MOST_BYTES
+
 -- a line that came to this state
 record Ran (Stands : Fronts → Type 0) (h : House) (count : ℕ) (alone : Bool) (moment conn : ℕ) (got : Got) (s : RunState)
     (run : ScriptRun) (text : List ℕ) : Type 0 where
@@ -43,10 +53,10 @@ record Ran (Stands : Fronts → Type 0) (h : House) (count : ℕ) (alone : Bool)
 -- (the run behind the turn has this one session anew)
 ran : {S : Type 0} (stands : S → Fronts → Type 0) (h : House) (count : ℕ) (alone : Bool) (hall : S) (s : RunState)
     (moment conn : ℕ) (got : Got) (texts : List (List ℕ)) (old new : Desk) (run next : ScriptRun)
-    → Holds h run s → slice_get run.desks.items conn ≡ Some old → next.desks.items ≡ set run.desks.items conn new
-    → next.failed ≡ run.failed → TurnFrom stands h count alone hall s moment got texts old new
+    → Holds h run s → slice_get run.desks.items conn ≡ Some old → Turned run next conn texts new
+    → TurnFrom stands h count alone hall s moment got texts old new
     → Ran (stands hall) h count alone moment conn got s next (sent conn texts)
-ran stands h count alone hall s moment conn got texts old new run next holds was desks failed turn =
+ran stands h count alone hall s moment conn got texts old new run next holds was turns turn =
     let x : Session = session_of conn s.sessions in
     let same : desk_session old ≡ x = (holds.desks conn old was).session in
     let t = turn.turned in
@@ -58,18 +68,21 @@ ran stands h count alone hall s moment conn got texts old new run next holds was
     subst (λ (y : Session). texts ≡ (turn_of h count g y (asked y moment got)).texts) same t.texts in
     let leaves : desk_session new ≡ left =
     subst (λ (y : Session). desk_session new ≡ (turn_of h count g y (asked y moment got)).left) same t.session in
-    let state : RunState = record { fronts = g; keeper = s.keeper; sessions = (conn, left) ∷ s.sessions; faulted = s.faulted } in
+    let more = text_bytes (turn_of h count g x (asked x moment got)).texts in
+    let state : RunState = record s { fronts = g; sessions = (conn, left) ∷ s.sessions; bytes = s.bytes + more } in
     record {
       state = state;
-      runs = record { calls = calls; keeper = refl; sessions = refl; faulted = refl; sends = ap (sent conn) wrote };
+      runs = record { calls = calls; keeper = refl; sessions = refl; faulted = refl; bytes = refl; sends = ap (sent conn) wrote };
       left = record {
         outside = record { stands_for = t.stands_for; told = tt };
         inside = record {
           desks = subst (AreDesks h state)
-              (sym desks)
-              (desks-turned h s g left run.desks.items conn old new (calls-on alone count (asked x moment got) s.fronts g calls)
+              (sym turns.desks)
+              (desks-turned h s g left (s.bytes + more) run.desks.items conn old new (calls-on alone count (asked x moment got) s.fronts g calls)
               holds.desks was leaves turn.fits);
-          faulted = failed ∙ holds.faulted;
+          faulted = turns.failed ∙ holds.faulted;
+          bytes = counted s.bytes more run.bytes next.bytes holds.bytes
+              (turns.bytes ∙ ap (λ (sent : List (List ℕ)). min (run.bytes + text_bytes sent) MOST_BYTES) wrote);
         };
       };
     }
@@ -77,31 +90,32 @@ ran stands h count alone hall s moment conn got texts old new run next holds was
 -- its texts were written
 pub said : {S : Type 0} (stands : S → Fronts → Type 0) (h : House) (count : ℕ) (alone : Bool) (hall : S) (s : RunState)
     (moment conn : ℕ) (got : Got) (texts : List (List ℕ)) (old new : Desk) (run next : ScriptRun) (b a : Option (List ℕ))
-    → Holds h run s → slice_get run.desks.items conn ≡ Some old → next.desks.items ≡ set run.desks.items conn new
-    → next.failed ≡ run.failed → TurnFrom stands h count alone hall s moment got texts old new → Appends b a (sent conn texts)
+    → Holds h run s → slice_get run.desks.items conn ≡ Some old → Turned run next conn texts new
+    → TurnFrom stands h count alone hall s moment got texts old new → Appends b a (sent conn texts)
     → RunsLine (IsAt (stands hall) AnyTelling h next) h count alone (line.Says moment conn got) s b a
-said stands h count alone hall s moment conn got texts old new run next b a holds was desks failed turn wrote =
-    let r = ran stands h count alone hall s moment conn got texts old new run next holds was desks failed turn in
+said stands h count alone hall s moment conn got texts old new run next b a holds was turns turn wrote =
+    let r = ran stands h count alone hall s moment conn got texts old new run next holds was turns turn in
     record { state = r.state; text = sent conn texts; runs = r.runs; left = r.left; written = wrote }
 
 -- a front of them was
 pub said-cut : {S : Type 0} (stands : S → Fronts → Type 0) (h : House) (count : ℕ) (alone : Bool) (hall : S) (s : RunState)
     (moment conn : ℕ) (got : Got) (texts : List (List ℕ)) (old new : Desk) (run next : ScriptRun) (b a : Option (List ℕ))
-    (why : RunEnd) → Holds h run s → slice_get run.desks.items conn ≡ Some old → next.desks.items ≡ set run.desks.items conn new
-    → next.failed ≡ run.failed → TurnFrom stands h count alone hall s moment got texts old new
+    (why : RunEnd) → Holds h run s → slice_get run.desks.items conn ≡ Some old → Turned run next conn texts new
+    → TurnFrom stands h count alone hall s moment got texts old new
     → IsWriteEnd why × AppendsFront b a (sent conn texts)
     → StopsLine (IsAt (stands hall) AnyTelling h next) h count alone (line.Says moment conn got) s b a why
-said-cut stands h count alone hall s moment conn got texts old new run next b a why holds was desks failed turn cut =
-    let r = ran stands h count alone hall s moment conn got texts old new run next holds was desks failed turn in
+said-cut stands h count alone hall s moment conn got texts old new run next b a why holds was turns turn cut =
+    let r = ran stands h count alone hall s moment conn got texts old new run next holds was turns turn in
     inr (record { writing = cut.0; state = r.state; text = sent conn texts; runs = r.runs; left = r.left; written = cut.1 })
 
 -- nothing came of a turn
 pub said-nothing : {S : Type 0} (stands : S → Fronts → Type 0) (h : House) (count : ℕ) (alone : Bool) (hall : S) (s : RunState)
     (moment conn : ℕ) (got : Got) (old : Desk) (run next : ScriptRun) (b : Option (List ℕ)) (why : RunEnd)
     → (why ≡ Worn) ⊎ (why ≡ NoMemory) → Holds h run s → slice_get run.desks.items conn ≡ Some old
-    → next.desks.items ≡ set run.desks.items conn old → next.failed ≡ run.failed → GoesTo stands hall s.fronts
+    → next.desks.items ≡ set run.desks.items conn old → next.failed ≡ run.failed → next.bytes ≡ run.bytes
+    → GoesTo stands hall s.fronts
     → StopsLine (IsAt (stands hall) AnyTelling h next) h count alone (line.Says moment conn got) s b b why
-said-nothing stands h count alone hall s moment conn got old run next b why cause holds was desks failed goes =
+said-nothing stands h count alone hall s moment conn got old run next b why cause holds was desks failed bytes goes =
     let rest : RunState = record s { fronts = goes.after } in
     inl (record {
       rest = rest;
@@ -111,6 +125,7 @@ said-nothing stands h count alone hall s moment conn got old run next b why caus
           desks = subst (AreDesks h rest) (sym desks)
               (desks-kept h s goes.after run.desks.items conn old goes.on holds.desks was);
           faulted = failed ∙ holds.faulted;
+          bytes = bytes ∙ holds.bytes;
         };
       };
       halts = by cause;

@@ -1,5 +1,5 @@
 -- Which state of a run does the program hold, and for which does what is outside stand?
-use Rattle.std.specs.Prelude.{◌≡◌, ℕ, Bool, IsTrue, List, Some, slice_get}
+use Rattle.std.specs.Prelude.{◌≡◌, ℕ, ◌-◌, ◌^◌, Bool, IsTrue, List, Some, min, slice_get}
 use Rattle.hb_io.specs.Causes.{Rose}
 use Rattle.hb_club.specs.Fronts.{Fronts, House}
 use Rattle.hb_house.specs.KeeperSteps.{IsSure, Telling}
@@ -28,10 +28,18 @@ AreDesks h s desks = (conn : ℕ) (d : Desk) → slice_get desks conn ≡ Some d
 abbrev pub has_failed : ScriptRun → Bool
 has_failed run = run.failed
 
--- a run holds the sessions of a state, and whether the keeper met a fault
+-- how many bytes of texts are counted; the greatest count stands for more, too
+abbrev pub MOST_BYTES : ℕ
+MOST_BYTES = 2 ^ 64 - 1
+
+abbrev pub counted_bytes : ScriptRun → ℕ
+counted_bytes run = run.bytes
+
+-- a run holds the sessions of a state, whether the keeper met a fault, and the count of bytes
 pub record Holds (h : House) (run : ScriptRun) (s : RunState) : Type 0 where
   pub desks : AreDesks h s run.desks.items
   pub faulted : has_failed run ≡ s.faulted
+  pub bytes : counted_bytes run ≡ min s.bytes MOST_BYTES
 
 -- a run is at a state: within the program, and outside of it
 pub record IsAt (Stands : Fronts → Type 0) (Tells : Telling → Type 0) (h : House)

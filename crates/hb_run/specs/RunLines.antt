@@ -1,6 +1,6 @@
 -- What does a line of a script do to the state of a run, and what does it write? Events of others
 -- may come to the rooms and to the lobby meanwhile.
-use Rattle.std.specs.Prelude.{◌≡◌, ◌<◌, ◌⊎◌, ℕ, suc, Bool, true, false, List, [], ◌∷◌, ◌++◌, codes, decimal}
+use Rattle.std.specs.Prelude.{◌≡◌, ◌<◌, ◌+◌, ◌⊎◌, ℕ, suc, Bool, true, false, List, [], ◌∷◌, ◌++◌, codes, decimal, length, map, sum}
 use Rattle.hb_io.specs.declared.got.Got.{Got}
 use Rattle.hb_club.specs.Fronts.{Fronts, House, site_of}
 use Rattle.hb_house.specs.declared.reports.ClerkError.{ClerkError}
@@ -19,18 +19,24 @@ use Rattle.hb_talk.specs.Sessions.{TurnCalls}
 use Rattle.hb_talk.specs.Turns.{Turn, turn_of}
 
 -- the state of a run: the lists of the rooms and of the lobby, what the keeper tells, the sessions
--- by their connections, the newest first, and whether the keeper met a fault
+-- by their connections, the newest first, whether the keeper met a fault, and how many bytes the
+-- texts have that the sessions sent
 pub record RunState : Type 0 where
   pub fronts : Fronts
   pub keeper : Telling
   pub sessions : List (ℕ × Session)
   pub faulted : Bool
+  pub bytes : ℕ
 
 -- before the first line
 abbrev pub first_state : Fronts → Telling → RunState
-first_state f c = record { fronts = f; keeper = c; sessions = []; faulted = false }
+first_state f c = record { fronts = f; keeper = c; sessions = []; faulted = false; bytes = 0 }
 
 -- what a connection says
+
+-- how many bytes the texts of a turn have
+abbrev pub text_bytes : List (List ℕ) → ℕ
+text_bytes texts = sum (map length texts)
 
 -- the turn of a connection for an errand, by the lists behind it
 abbrev pub turn_behind : House → ℕ → ℕ → Errand → RunState → Fronts → Turn
@@ -45,6 +51,8 @@ pub record TurnRuns (h : House) (count : ℕ) (alone : Bool) (conn : ℕ) (task 
   pub sessions : after.sessions
       ≡ (conn, (turn_behind h count conn task before after.fronts).left) ∷ before.sessions
   pub faulted : after.faulted ≡ before.faulted
+  pub bytes : after.bytes
+      ≡ before.bytes + text_bytes (turn_behind h count conn task before after.fronts).texts
   pub sends : text ≡ sent conn (turn_behind h count conn task before after.fronts).texts
 
 -- the clerk
@@ -68,6 +76,7 @@ pub record ClerkRuns (h : House) (count : ℕ) (alone : Bool) (moment : ℕ)
       (place_of after report)
   pub sessions : after.sessions ≡ before.sessions
   pub faulted : after.faulted ≡ before.faulted
+  pub bytes : after.bytes ≡ before.bytes
   pub tells : text ≡ report_line report
 
 -- the clerk went through the first rooms, and stopped in the round of the next for this cause
@@ -80,6 +89,7 @@ pub record ClerkHalts (h : House) (count : ℕ) (alone : Bool) (moment : ℕ) (w
       (StepAt (suc done) (RoundStops alone (site_of h (suc done)) moment why))
       (place_of after report)
   pub sessions : after.sessions ≡ before.sessions
+  pub bytes : after.bytes ≡ before.bytes
 
 -- the keeper met a fault: it stops the clerk, and not the run
 pub record ClerkFaults (h : House) (count : ℕ) (alone : Bool) (moment : ℕ)

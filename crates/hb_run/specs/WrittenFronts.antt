@@ -1,5 +1,5 @@
 -- Which front of a text was written, if writing it stopped?
-use Rattle.std.specs.Prelude.{◌≡◌, ◌⊎◌, ◌≤◌, ℕ, List, ◌++◌, Option, codes, decimal, length, take}
+use Rattle.std.specs.Prelude.{◌≡◌, ◌⊎◌, ◌≤◌, ℕ, List, Option, length, take}
 use Rattle.std.specs.Io.KnownBytes.{Appends}
 use Rattle.hb_run.specs.declared.ends.RunEnd.{RunEnd}
 use Rattle.hb_run.specs.declared.ends.RunEnd.TheVariants.{NoMemory, WriteFault}
@@ -13,7 +13,3 @@ pub record AppendsFront (before after : Option (List ℕ)) (text : List ℕ) : T
 -- writing stopped: the sink failed, or there was no memory for a line
 abbrev pub IsWriteEnd : RunEnd → Type 0
 IsWriteEnd why = (why ≡ WriteFault) ⊎ (why ≡ NoMemory)
-
--- the line of one text that a connection is sent
-abbrev pub sent_line : ℕ → List ℕ → List ℕ
-sent_line conn text = decimal conn ++ (codes " " ++ (text ++ codes "\n"))

@@ -5,11 +5,13 @@ ghost use Rattle.std.specs.Vec.{vec_len};
 
 use hb_desk::Desk;
 
-/// A run of lines that goes on: the session of each connection, by its number, and whether the
-/// keeper met a fault.
+/// A run of lines that goes on: the session of each connection, by its number, whether the keeper
+/// met a fault, and how many bytes of texts the sessions have sent.
 #[derive(Drop)]
 pub struct ScriptRun {
     pub(crate) desks: Vec<Desk>,
     pub(crate) failed: bool,
+    /// The greatest number, if it is as many or more.
+    pub(crate) bytes: u64,
     ghost seats: { vec_len desks ≡ 257 },
 }

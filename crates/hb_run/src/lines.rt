@@ -8,7 +8,7 @@ ghost use Rattle.hb_run.specs.HeldRuns.{FromEach, IsAt, has_failed};
 ghost use Rattle.hb_run.specs.RunLines.{RunState};
 ghost use Rattle.hb_run.specs.RunSteps.{AnyTelling, RunsLine, StopsLine};
 
-use crate::texts::{write_fault, write_report, write_sent};
+use crate::texts::{with_texts, write_fault, write_report, write_sent};
 use crate::{RunEnd, ScriptRun};
 use hb_house::{ClerkError, Hall, Report, clerk};
 use hb_io::{Got, Sink, Texts};
@@ -93,7 +93,11 @@ impl ScriptRun {
     {
         let mut texts = Texts::new(alloc);
         match self.desks[conn as usize].turn(alloc, hall, moment, got, &mut texts) {
-            Ok(_) => write_sent(out, alloc, conn, texts.as_slice()),
+            Ok(_) => {
+                let texts = texts.as_slice();
+                self.bytes = with_texts(self.bytes, texts);
+                write_sent(out, alloc, conn, texts)
+            }
             Err(TurnError::Worn) => Err(RunEnd::Worn),
             Err(TurnError::NoMemory) => Err(RunEnd::NoMemory),
         }

@@ -6,7 +6,7 @@ ghost use Rattle.hb_house.specs.ClerkRounds.{AtEach};
 ghost use Rattle.hb_house.specs.KeeperSteps.{Telling, Tells};
 ghost use Rattle.hb_io.specs.Causes.{Rose};
 ghost use Rattle.hb_talk.specs.Scripts.{HasConnection};
-ghost use Rattle.hb_run.specs.HeldRuns.{EndsAt, FromEach, Holds, IsAt, StopsAt, has_failed};
+ghost use Rattle.hb_run.specs.HeldRuns.{EndsAt, FromEach, Holds, IsAt, StopsAt, counted_bytes, has_failed};
 ghost use Rattle.hb_run.specs.RunLines.{first_state};
 ghost use Rattle.hb_run.specs.ScriptRuns.{RunsAll, RunsSome};
 
@@ -31,6 +31,7 @@ impl ScriptRun {
         Ok(ScriptRun {
             desks,
             failed: false,
+            bytes: 0,
         })
     }
 
@@ -39,6 +40,14 @@ impl ScriptRun {
         ensures { result ≡ has_failed self.now }
     {
         self.failed
+    }
+
+    /// How many bytes the texts have that the sessions sent; the greatest number if it is as many
+    /// or more.
+    pub fn bytes(&self) -> u64
+        ensures { result ≡ counted_bytes self.now }
+    {
+        self.bytes
     }
 
     /// Runs lines in order, behind those that were run before.

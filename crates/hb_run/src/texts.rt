@@ -1,11 +1,12 @@
 //! How are the texts of a script's lines written?
 
-ghost use Rattle.std.specs.Prelude.{◌≡◌, IfErr, IfOk, IsErrOf, OnOk, string_bytes};
+ghost use Rattle.std.specs.Prelude.{◌≡◌, ◌+◌, IfErr, IfOk, IsErrOf, OnOk, min, string_bytes};
 ghost use Rattle.std.specs.Io.KnownBytes.{Appends};
 ghost use Rattle.hb_io.specs.Causes.{Rose};
 ghost use Rattle.hb_talk.specs.Scripts.{sent};
-ghost use Rattle.hb_run.specs.RunLines.{fault_line, report_line};
-ghost use Rattle.hb_run.specs.WrittenFronts.{AppendsFront, IsWriteEnd, sent_line};
+ghost use Rattle.hb_run.specs.HeldRuns.{MOST_BYTES};
+ghost use Rattle.hb_run.specs.RunLines.{fault_line, report_line, text_bytes};
+ghost use Rattle.hb_run.specs.WrittenFronts.{AppendsFront, IsWriteEnd};
 
 use crate::RunEnd;
 use hb_house::Report;
@@ -26,15 +27,30 @@ fn write<O: Sink>(out: &mut O, text: &str) -> Result<(), RunEnd>
     }
 }
 
-/// The line of a text that a connection is sent.
-fn line_to(alloc: Global, conn: u32, text: &Text) -> Result<String, AllocError>
-    ensures { IfOk result (λ line. string_bytes line ≡ sent_line conn text.now) }
+/// A count of bytes with those of texts; the greatest number if it is as many or more.
+pub(crate) fn with_texts(bytes: u64, texts: &[Text]) -> u64
+    ensures { result ≡ min (bytes + text_bytes texts.now) MOST_BYTES }
 {
-    let text = text.as_str();
-    format!(in alloc; "{conn} {text}\n")
+    let mut counted = bytes;
+    for text in texts {
+        counted = counted.saturating_add(text.as_str().len() as u64);
+    }
+    counted
 }
 
-/// Writes what a connection is sent: a line for each text, behind the connection's number.
+/// What a connection is sent: a line for each text, behind the connection's number.
+fn sent_lines(alloc: Global, conn: u32, texts: &[Text]) -> Result<String, AllocError>
+    ensures { IfOk result (λ lines. string_bytes lines ≡ sent conn texts.now) }
+{
+    let mut lines = String::new(alloc);
+    for text in texts {
+        let text = text.as_str();
+        write!(lines, "{conn} {text}\n")?;
+    }
+    Ok(lines)
+}
+
+/// Writes what a connection is sent by a turn, all at once.
 pub(crate) fn write_sent<O: Sink>(
     out: &mut O,
     alloc: Global,
@@ -47,16 +63,10 @@ pub(crate) fn write_sent<O: Sink>(
     ensures cause { IsErrOf result RunEnd.WriteFault → Rose (O.faults out.old) (O.faults out.new) }
     ensures same { OnOk result (O.faults out.new ≡ O.faults out.old) }
 {
-    for text in texts {
-        let Ok(line) = line_to(alloc, conn, text) else {
-            return Err(RunEnd::NoMemory);
-        };
-        match write(out, line.as_str()) {
-            Ok(()) => {}
-            Err(e) => return Err(e),
-        }
-    }
-    Ok(())
+    let Ok(lines) = sent_lines(alloc, conn, texts) else {
+        return Err(RunEnd::NoMemory);
+    };
+    write(out, lines.as_str())
 }
 
 /// The line of a report of the clerk.

@@ -15,13 +15,13 @@ returns-in-Ok-clause-err g c = if_err c.write_report.result (λ why cut s at sur
 
 pub returns-in-Err-KeeperFault-clause-ok : goal.returns-in-Err-KeeperFault-clause-ok
 returns-in-Err-KeeperFault-clause-ok g c = on_ok c.write_fault.result (λ wrote s at sure.
-    faulted _ _ _ _ _ c.args.moment s c.clerk.new.report _ _ _ _ at.inside refl refl
+    faulted _ _ _ _ _ c.args.moment s c.clerk.new.report _ _ _ _ at.inside refl refl refl
     (rw c.in-Err-KeeperFault.field-0-is at (c.in-Err-KeeperFault.ensures.err s.fronts s.keeper at.outside.stands_for at.outside.told sure))
     wrote) c.write_fault.ensures.ok
 
 pub returns-in-Err-KeeperFault-clause-err : goal.returns-in-Err-KeeperFault-clause-err
 returns-in-Err-KeeperFault-clause-err g c = if_err c.write_fault.result (λ why cut s at sure.
-    faulted-cut _ _ _ _ _ c.args.moment s c.clerk.new.report _ _ _ _ why at.inside refl refl
+    faulted-cut _ _ _ _ _ c.args.moment s c.clerk.new.report _ _ _ _ why at.inside refl refl refl
     (rw c.in-Err-KeeperFault.field-0-is at (c.in-Err-KeeperFault.ensures.err s.fronts s.keeper at.outside.stands_for at.outside.told sure))
     cut) c.write_fault.ensures.err
 
