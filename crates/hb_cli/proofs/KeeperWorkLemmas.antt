@@ -125,4 +125,4 @@ module _ (a : Asked) (Was Left : Telling → Type 0) (sure : Type 0) (out : Sent
 
   pub listed_fails : (why : Stop) → why ≡ stop.WriteFault → OfGames a Was sure (ListedGames Left (FailsIn out))
       → Stops a Was Left sure out why
-  listed_fails why is done = subst (Stops a Was Left sure out) (sym is) (inr (inr done))
+  listed_fails why is done = subst (Stops a Was Left sure out) (sym is) (inr (inr (inl done)))

@@ -1,5 +1,5 @@
 -- What is done for the words and the input, by what a command does?
-use Rattle.std.proofs.Common.{◌≡◌, ◌≤◌, ◌∙◌, ℕ, List, [], Option, Some, None, inl, inr, length, subst, sym}
+use Rattle.std.proofs.Common.{◌≡◌, ◌≢◌, ◌≤◌, ◌∙◌, ℕ, List, [], Option, Some, None, inl, inr, length, subst, sym}
 use Rattle.std.specs.Prelude.{◌⊎◌, ⊤, IfSome, Ok, Err}
 use Rattle.hb_script.specs.declared.scripts.Script.{Script}
 use Rattle.hb_script.specs.declared.scripts.ScriptError.{ScriptError}
@@ -10,14 +10,14 @@ use Rattle.hb_house.specs.KeeperSteps.{Telling}
 use Rattle.hb_words.proofs.Decoded.{is_decoded}
 use Rattle.hb_words.specs.Commands.{IsCommand}
 use Rattle.hb_words.specs.declared.commands.Command.{Command}
-use Rattle.hb_words.specs.declared.commands.Command.TheVariants.{Games, Replay, Script as RunsScript}
+use Rattle.hb_words.specs.declared.commands.Command.TheVariants.{Games, Make, Replay, Script as RunsScript}
 use Rattle.hb_words.specs.declared.commands.ReplayCommand.{ReplayCommand}
 use Rattle.hb_cli.specs.declared.status.Stop.{Stop}
 use Rattle.hb_cli.specs.declared.status.Stop.TheVariants as stop
 use Rattle.hb_cli.specs.declared.replays.TheConstants.{MOST_INPUT}
 use Rattle.hb_cli.specs.Asked.{Asked, AsksGames, AsksScript, AsksToRead, IsScriptText, IsStop, IsText, ReadsNothing}
 use Rattle.hb_cli.specs.Statuses.{stop_of_script}
-use Rattle.hb_cli.specs.Works.{Stops}
+use Rattle.hb_cli.specs.Works.{OfMade, Stops}
 use Rattle.hb_cli.specs.Written.{FailsIn, Sent, Writes}
 
 -- words that ask for no command ask for nothing that reads
@@ -40,7 +40,8 @@ asks_script a store is = (store, is, told_any a.told)
 pub asks_games : (a : Asked) (store name : List ℕ) → IsCommand a.words (Games store name) → AsksGames a (λ name. ⊤)
 asks_games a store name is = (store, name, is, tt)
 
-one_command : (words : List (List ℕ)) (c d : Command) → IsCommand words c → IsCommand words d → c ≡ d
+-- words ask for at most one command
+pub one_command : (words : List (List ℕ)) (c d : Command) → IsCommand words c → IsCommand words d → c ≡ d
 one_command words c d first other = is_decoded words c first ∙ sym (is_decoded words d other)
 
 -- words that ask for games ask for nothing that reads
@@ -50,7 +51,29 @@ games_read_nothing a store name is (inl (command, other, told)) =
 games_read_nothing a store name is (inr (path, other, told)) =
     let same : Games store name ≡ RunsScript path = one_command a.words (Games store name) (RunsScript path) is other in cc
 
+-- words that ask for a made script ask for nothing that reads
+pub made_reads_nothing : (a : Asked) (tables seed : ℕ) → IsCommand a.words (Make tables seed) → ReadsNothing a
+made_reads_nothing a tables seed is (inl (command, other, told)) =
+    let same : Make tables seed ≡ Replay command = one_command a.words (Make tables seed) (Replay command) is other in cc
+made_reads_nothing a tables seed is (inr (path, other, told)) =
+    let same : Make tables seed ≡ RunsScript path = one_command a.words (Make tables seed) (RunsScript path) is other in cc
+
+-- why a made script is not summed up: memory ran out, or the output failed
+abbrev pub MadeStops : Asked → Sent → Stop → Type 0
+MadeStops a out why =
+    ((why ≡ stop.NoMemory) × Writes out []) ⊎ ((why ≡ stop.WriteFault) × OfMade a (FailsIn out))
+
+-- so it is no other cause
+pub made_other : (a : Asked) (out : Sent) (why other : Stop) → MadeStops a out why → other ≢ stop.NoMemory → other ≢ stop.WriteFault
+    → why ≡ other → ⊥
+made_other a out why other (inl plain) memory output is = memory (sym is ∙ plain.0)
+made_other a out why other (inr fails) memory output is = output (sym is ∙ fails.0)
+
 module _ (a : Asked) (Was Left : Telling → Type 0) (sure : Type 0) (out : Sent) where
+  pub made_stops : (why : Stop) → MadeStops a out why → Stops a Was Left sure out why
+  made_stops why (inl plain) = subst (Stops a Was Left sure out) (sym plain.0) (inr plain.1)
+  made_stops why (inr fails) = subst (Stops a Was Left sure out) (sym fails.0) (inr (inr (inr fails.1)))
+
   -- a cause that words and input give
   pub stops_by : (why : Stop) → IsStop a why → Writes out [] → Stops a Was Left sure out why
   stops_by stop.Usage is nothing = (is, nothing)

@@ -8,7 +8,7 @@ use Rattle.hb_replay.specs.declared.errors.ReplayError.{ReplayError}
 use Rattle.hb_script.specs.declared.scripts.Script.{Script}
 use Rattle.hb_script.specs.ScriptGrammar.{script_of}
 use Rattle.hb_words.specs.declared.commands.Command.{Command}
-use Rattle.hb_words.specs.declared.commands.Command.TheVariants.{Games, Replay, Script as RunsScript}
+use Rattle.hb_words.specs.declared.commands.Command.TheVariants.{Games, Make, Replay, Script as RunsScript}
 use Rattle.hb_words.specs.declared.commands.ReplayCommand.{ReplayCommand}
 use Rattle.hb_words.specs.Commands.{IsCommand, texts_of}
 use Rattle.hb_cli.specs.declared.replays.TheConstants.{MOST_INPUT}
@@ -47,6 +47,10 @@ AsksToRead a P = Asks a (λ command. P) ⊎ AsksScript a P
 -- they ask for the kept games of a member, of whose name this holds
 abbrev pub AsksGames : Asked → (List ℕ → Type 0) → Type 0
 AsksGames a P = (store name : List ℕ) × IsCommand a.words (Games store name) × P name
+
+-- they ask for a made script, and this holds of the number of its tables and its seed
+abbrev pub AsksMade : Asked → (ℕ → ℕ → Type 0) → Type 0
+AsksMade a P = (tables seed : ℕ) × IsCommand a.words (Make tables seed) × P tables seed
 
 -- they ask for nothing that reads, for no script, and for no kept games
 

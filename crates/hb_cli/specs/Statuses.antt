@@ -117,8 +117,8 @@ stop_of_run ends.NoMemory = stop.NoMemory
 
 -- the line of a cause
 abbrev pub line_of : Stop → List ℕ
-line_of stop.Usage =
-    codes "usage\nwatch SEAT\nlook SEAT TURN\ncheck\ncopy\nscript STORE\ngames STORE NAME\n"
+line_of stop.Usage = codes
+    "usage\nwatch SEAT\nlook SEAT TURN\ncheck\ncopy\nscript STORE\ngames STORE NAME\nmake N SEED\n"
 line_of stop.ReadFault = codes "read fault\n"
 line_of stop.WriteFault = codes "write fault\n"
 line_of stop.TooLong = codes "input too long\n"

@@ -14,13 +14,16 @@ use Rattle.hb_house.specs.KeeperSteps.{Failed, IsSure, Telling, Worked}
 use Rattle.hb_house.specs.PlainHalls.{house_with}
 use Rattle.hb_script.specs.declared.scripts.Script.{Script}
 use Rattle.hb_script.specs.GamesText.{games_text}
+use Rattle.hb_script.specs.MadeScripts.{made_text}
 use Rattle.hb_run.specs.declared.ends.RunEnd.{RunEnd}
 use Rattle.hb_run.specs.declared.ends.RunEnd.TheVariants as ends
 use Rattle.hb_run.specs.RunLines.{first_state}
 use Rattle.hb_run.specs.ScriptRuns.{RunsAll, RunsSome}
 use Rattle.hb_cli.specs.declared.status.Stop.{Stop}
 use Rattle.hb_cli.specs.declared.status.Stop.TheVariants as stop
-use Rattle.hb_cli.specs.Asked.{Asked, AsksGames, AsksScript, IsScriptText, IsStop, IsText}
+use Rattle.hb_cli.specs.Asked.{Asked, AsksGames, AsksMade, AsksScript, IsScriptText, IsStop, IsText}
+use Rattle.hb_cli.specs.Begun.{Begun}
+use Rattle.hb_cli.specs.MadeRuns.{RanMade}
 use Rattle.hb_cli.specs.Written.{FailsIn, Sent, Writes}
 
 -- at each content and plan that the keeper told before
@@ -37,13 +40,8 @@ pub record KeeperRefused {A : Type 0} (Left : Telling → Type 0) (refusal : Kee
 
 -- a script
 
--- the keeper began a run
-pub record Begun (c : Telling) : Type 0 where
-  pub run : ℕ
-  pub keeper : Telling
-  pub began : Worked open_run_on c (Ok run) keeper
-
--- behind it the lines of a script were run to their end, in a plain hall of that run
+-- the keeper began a run, and behind it the lines of a script were run to their end, in a plain
+-- hall of that run
 pub record RanScript (Left : Telling → Type 0) (script : Script) (faulted : Bool) (out : Sent)
     (c : Telling) : Type 0 where
   pub begun : Begun c
@@ -78,6 +76,13 @@ pub record ListedGames (Left : Telling → Type 0) (Wrote : List ℕ → Type 0)
 abbrev pub OfGames : Asked → (Telling → Type 0) → Type 0 → (List ℕ → Telling → Type 0) → Type 0
 OfGames a Was sure Does = AsksGames a (λ name. AtTold Was sure (Does name))
 
+-- a made script
+
+-- the words ask for one; its lines were run, and the line that sums them up was written so
+abbrev pub OfMade : Asked → (List ℕ → Type 0) → Type 0
+OfMade a Wrote = AsksMade a (λ tables seed. (bytes : ℕ) × RanMade tables seed bytes
+    × Wrote (made_text tables seed bytes))
+
 -- all work
 
 -- the whole output was written; `faulted` says that the keeper met a fault at a line of the clerk
@@ -86,7 +91,8 @@ abbrev pub Works : Asked → (Was Left : Telling → Type 0) → (sure : Type 0)
 Works a Was Left sure faulted out =
     OfScript a Was sure (λ s. RanScript Left s faulted out)
     ⊎ ((faulted ≡ false) × (((text : List ℕ) × IsText a text × Writes out text)
-    ⊎ OfGames a Was sure (ListedGames Left (Writes out))))
+    ⊎ OfGames a Was sure (ListedGames Left (Writes out))
+    ⊎ OfMade a (Writes out)))
 
 -- the output failed in what was to be written
 abbrev pub FailsOut : Asked → (Was Left : Telling → Type 0) → (sure : Type 0) → Sent → Type 0
@@ -94,6 +100,7 @@ FailsOut a Was Left sure out =
     OfScript a Was sure (λ s. StoppedScript Left s ends.WriteFault out)
     ⊎ ((text : List ℕ) × IsText a text × FailsIn out text)
     ⊎ OfGames a Was sure (ListedGames Left (FailsIn out))
+    ⊎ OfMade a (FailsIn out)
 
 -- the keeper refused to begin the run of a script
 abbrev pub RunRefused : Asked → (Was Left : Telling → Type 0) → (sure : Type 0) → KeepError

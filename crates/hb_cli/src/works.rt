@@ -10,6 +10,7 @@ ghost use Rattle.hb_cli.specs.Works.{Stops, Works};
 ghost use Rattle.hb_cli.specs.Written.{sent};
 
 use crate::games::games;
+use crate::makes::make;
 use crate::replays::replay;
 use crate::scripts::script;
 use crate::status::Stop;
@@ -66,6 +67,10 @@ pub fn work<S: Source, O: Sink, K: Keeper>(
         },
         Command::Script { .. } => script(alloc, source, out, keeper),
         Command::Games { name, .. } => match games(alloc, name, out, keeper) {
+            Ok(()) => Ok(false),
+            Err(stop) => Err(stop),
+        },
+        Command::Make { tables, seed } => match make(alloc, *tables, *seed, out) {
             Ok(()) => Ok(false),
             Err(stop) => Err(stop),
         },

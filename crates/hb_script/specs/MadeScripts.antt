@@ -20,6 +20,7 @@ use Rattle.hb_request.specs.declared.requests.Request.TheVariants as request
 use Rattle.hb_request.specs.declared.requests.WireClue.{WireClue}
 use Rattle.hb_request.specs.declared.requests.WireClue.TheVariants as wire_clue
 use Rattle.hb_request.specs.Printed.{request_text}
+use Rattle.hb_club.specs.declared.shoes.Shoe.{Shoe}
 use Rattle.hb_club.specs.TableFacts.{shuffled_deck}
 use Rattle.hb_talk.specs.declared.scripts.ScriptLine.{ScriptLine}
 use Rattle.hb_talk.specs.declared.scripts.ScriptLine.TheVariants as line
@@ -31,6 +32,10 @@ use Rattle.hb_script.specs.MadeActs.{played_on}
 -- the script's seed: the eight bytes of the number, lowest first, and zeros
 abbrev pub made_seed : ℕ → List ℕ
 made_seed seed = to_le_bytes w64 seed ++ replicate 24 0
+
+-- the shoe of its rooms: no deck is written
+abbrev pub made_shoe : ℕ → Shoe
+made_shoe seed = record { seed = made_seed seed; written = None }
 
 abbrev pub no_variant : Variant
 no_variant =

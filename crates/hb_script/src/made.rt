@@ -1,16 +1,18 @@
 //! Which lines has the script that is made of a number of tables and a seed?
 
 ghost use Rattle.std.specs.Prelude.{◌≡◌, ◌<◌, ◌≤◌, true, [], All, IfOk, OnOk, is_some, length};
+ghost use Rattle.hb_rules.specs.declared.limits.TheConstants.{MOST_ACTS};
 ghost use Rattle.hb_rules.specs.Positions.{ended, score};
 ghost use Rattle.hb_rules.specs.Start.{CanStart};
 ghost use Rattle.hb_talk.specs.Scripts.{HasConnection};
 ghost use Rattle.hb_script.specs.MadeActs.{played_on};
-ghost use Rattle.hb_script.specs.MadeScripts.{hello_line as line_of_hello, hello_lines as lines_of_hellos, made_game, made_players as players_of, made_seed as bytes_of_seed, made_start as start_of, no_variant as variant_of, summary as summary_of, table_asks, table_lines};
+ghost use Rattle.hb_script.specs.MadeScripts.{hello_line as line_of_hello, hello_lines as lines_of_hellos, made_game, made_players as players_of, made_seed as bytes_of_seed, made_shoe as shoe_of, made_start as start_of, no_variant as variant_of, summary as summary_of, table_asks, table_lines};
 ghost use Rattle.hb_script.specs.MadeTables.{HasAsked};
 
 use crate::choices::next_action;
 use crate::limits::MADE_MEMBERS;
 use crate::tables::{TableLines, ask_of, says};
+use hb_club::Shoe;
 use hb_deck::shuffled;
 use hb_io::{Sequence, Text};
 use hb_request::{Ask, Request, print_request};
@@ -40,6 +42,16 @@ fn made_seed(seed: u64) -> [u8; 32]
     let mut bytes = [0; 32];
     bytes[..8].copy_from_slice(&seed.to_le_bytes());
     bytes
+}
+
+/// The shoe of the rooms in which the script that is made of a seed is run: it has no written deck.
+pub fn made_shoe(seed: u64) -> Shoe
+    ensures { result ≡ shoe_of seed }
+{
+    Shoe {
+        seed: made_seed(seed),
+        written: None,
+    }
 }
 
 /// The variant of all games.
@@ -128,6 +140,7 @@ pub fn made_table(alloc: Global, seed: u64, table: u32) -> Result<MadeTable, All
     ensures lines { IfOk result (λ made. made.lines ≡ table_lines seed table) }
     ensures conns { IfOk result (λ made. All HasConnection made.lines) }
     ensures acts { IfOk result (λ made. made.acts ≡ length (made_game seed table).past) }
+    ensures few { IfOk result (λ made. made.acts ≤ MOST_ACTS) }
     ensures score { IfOk result (λ made. made.score ≡ score (made_game seed table)) }
     ensures ended { OnOk result (is_some (ended (made_game seed table)) ≡ true) }
 {

@@ -5,7 +5,7 @@ use Rattle.std.specs.Str.{bytes_eq}
 use Rattle.std.specs.Str.Parse.{digits_value}
 use Rattle.hb_words.specs.Commands.{IsCommand}
 use Rattle.hb_words.specs.declared.commands.Command.{Command}
-use Rattle.hb_words.specs.declared.commands.Command.TheVariants.{Replay, Script, Games}
+use Rattle.hb_words.specs.declared.commands.Command.TheVariants.{Replay, Script, Games, Make}
 use Rattle.hb_words.specs.declared.commands.ReplayCommand.TheVariants.{Watch, Look, Check, Copy}
 use Rattle.hb_words.proofs.Numerals.{value-decimal}
 
@@ -24,18 +24,25 @@ decoded words =
     (cond (is (codes "check")) (Replay Check)
     (cond (is (codes "copy")) (Replay Copy)
     (cond (is (codes "script")) (Script (word_at 1 words))
-    (Games (word_at 1 words) (word_at 2 words))))))
+    (cond (is (codes "games")) (Games (word_at 1 words) (word_at 2 words))
+    (Make (number_at 1 words) (number_at 2 words)))))))
 
+-- words that ask for a command ask for that one
 pub is_decoded : (words : List (List ℕ)) (c : Command) → IsCommand words c → c ≡ decoded words
 is_decoded words (Replay (Watch seat)) h =
     ap (λ n. Replay (Watch n)) (sym (value-decimal seat (omega (arith, h.1)))) ∙ sym (ap decoded h.0)
 is_decoded words (Replay (Look seat turn)) h =
-    ap₂ (λ n m. Replay (Look n m)) (sym (value-decimal seat (omega (arith, h.1)))) (sym (value-decimal turn (omega (arith, h.2)))) ∙ sym (ap decoded h.0)
+    ap₂ (λ n m. Replay (Look n m)) (sym (value-decimal seat (omega (arith, h.1))))
+    (sym (value-decimal turn (omega (arith, h.2)))) ∙ sym (ap decoded h.0)
 is_decoded words (Replay Check) h = sym (ap decoded h)
 is_decoded words (Replay Copy) h = sym (ap decoded h)
 is_decoded words (Script store) h = sym (ap decoded h.0)
 is_decoded words (Games store name) h = sym (ap decoded h.0)
+is_decoded words (Make tables seed) h =
+    ap₂ (λ n m. Make n m) (sym (value-decimal tables (omega (arith, h.2))))
+    (sym (value-decimal seed h.3)) ∙ sym (ap decoded h.0)
 
 -- words that do not ask for it ask for none
-pub none_but_decoded : (words : List (List ℕ)) → (IsCommand words (decoded words) → ⊥) → (c : Command) → IsCommand words c → ⊥
+pub none_but_decoded : (words : List (List ℕ)) → (IsCommand words (decoded words) → ⊥) → (c : Command)
+    → IsCommand words c → ⊥
 none_but_decoded words not c h = not (subst (IsCommand words) (is_decoded words c h) h)

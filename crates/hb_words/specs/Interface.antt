@@ -51,13 +51,14 @@ plus above command = with_subcommand above command.top
 -- the program with its commands, in their order
 abbrev pub all_commands : App
 all_commands =
-    plus (plus (plus (plus (plus (plus no_commands
+    plus (plus (plus (plus (plus (plus (plus no_commands
     (with_one (codes "watch")))
     (with_two (codes "look")))
     (bare (codes "check")))
     (bare (codes "copy")))
     (with_one (codes "script")))
-    (with_two (codes "games"))
+    (with_two (codes "games")))
+    (with_two (codes "make"))
 
 -- the texts of a command's values, by their ids
 abbrev pub row_texts : List Row → List Text

@@ -7,8 +7,8 @@ ghost use Rattle.hb_words.specs.PlainWords.{IsPlain};
 ghost use Rattle.hb_words.specs.declared.commands.Command.{Command as TheCommand};
 ghost use Rattle.hb_words.specs.declared.commands.ReplayCommand.{ReplayCommand as TheReplayCommand};
 
-use crate::commands::{Command, LAST_SEAT, MOST_STORE, MOST_TURNS, ReplayCommand};
-use crate::numbers::number;
+use crate::commands::{Command, LAST_SEAT, MOST_STORE, MOST_TABLES, MOST_TURNS, ReplayCommand};
+use crate::numbers::{number, number_up_to};
 use crate::parts::{Parts, Values};
 use hb_io::{Text, name};
 use std::alloc::{AllocError, Global};
@@ -21,11 +21,11 @@ fn replay_command(parts: &Parts<'_>) -> Option<ReplayCommand>
 {
     match (parts.name, parts.values) {
         ("watch", Values::One(seat)) => Some(ReplayCommand::Watch {
-            seat: number(seat, LAST_SEAT)?,
+            seat: number_up_to(seat, LAST_SEAT)?,
         }),
         ("look", Values::Two(seat, turn)) => Some(ReplayCommand::Look {
-            seat: number(seat, LAST_SEAT)?,
-            turn: number(turn, MOST_TURNS)?,
+            seat: number_up_to(seat, LAST_SEAT)?,
+            turn: number_up_to(turn, MOST_TURNS)?,
         }),
         ("check", Values::Zero) => Some(ReplayCommand::Check),
         ("copy", Values::Zero) => Some(ReplayCommand::Copy),
@@ -75,6 +75,20 @@ fn games(alloc: Global, store: &str, member: &str) -> Result<Option<Command>, Al
     Ok(Some(Command::Games { store, name }))
 }
 
+/// The command `make` with these two words, if they are right.
+fn make(tables: &str, seed: &str) -> Option<Command>
+    ensures found { IfSome result (IsCommand (codes "make" ∷ tables.now ∷ seed.now ∷ [])) }
+    ensures none { IfNone result ((c : TheCommand)
+        → IsCommand (codes "make" ∷ tables.now ∷ seed.now ∷ []) c → ⊥) }
+{
+    let tables = number_up_to(tables, MOST_TABLES)?;
+    if tables == 0 {
+        return None;
+    }
+    let seed = number(seed)?;
+    Some(Command::Make { tables, seed })
+}
+
 /// The command that the parts, none of which begins with `-`, ask for, if they ask for one.
 pub(crate) fn asked(alloc: Global, parts: &Parts<'_>) -> Result<Option<Command>, AllocError>
     requires { All IsPlain (parts_of parts.now) }
@@ -85,6 +99,7 @@ pub(crate) fn asked(alloc: Global, parts: &Parts<'_>) -> Result<Option<Command>,
     match (parts.name, parts.values) {
         ("script", Values::One(store)) => script(alloc, store),
         ("games", Values::Two(store, member)) => games(alloc, store, member),
+        ("make", Values::Two(tables, seed)) => Ok(make(tables, seed)),
         _ => Ok(replay_command(parts).map(Command::Replay)),
     }
 }

@@ -14,6 +14,9 @@ pub const MOST_TURNS: u8 = MOST_ACTS as u8;
 /// The most bytes of the word that names a store.
 pub const MOST_STORE: usize = 255;
 
+/// The most tables that a word can ask for.
+pub const MOST_TABLES: u8 = 64;
+
 /// The word that names a store in memory.
 pub const MEMORY: &str = "mem";
 
@@ -40,6 +43,9 @@ pub enum Command {
     Script { store: Text },
     /// `games STORE NAME`: the kept games of a member.
     Games { store: Text, name: Name },
+    /// `make N SEED`: in short, what the script that is made of a number of tables, 1 to 64, and a
+    /// seed does to a hall of rooms.
+    Make { tables: u8, seed: u64 },
 }
 
 /// Where kept games stand.
@@ -80,7 +86,7 @@ impl Command {
             Command::Script { store } | Command::Games { store, .. } => {
                 Some(Store::named(store.as_str()))
             }
-            Command::Replay(_) => None,
+            Command::Replay(_) | Command::Make { .. } => None,
         }
     }
 }

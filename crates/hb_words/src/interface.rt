@@ -2,7 +2,8 @@
 
 ghost use Rattle.std.specs.Prelude.{◌≡◌, IfOk};
 ghost use Rattle.clap.specs.Words.{App, app_of, with_rule};
-ghost use Rattle.hb_words.specs.Interface.{IsForm, all_commands, no_commands, value_rule, with_one, with_two};
+ghost use Rattle.hb_words.specs.Interface.{IsForm, all_commands, no_commands, value_rule};
+ghost use Rattle.hb_words.specs.Interface.{with_one, with_two};
 
 use clap::{Arg, Command};
 use std::alloc::{AllocError, Global};
@@ -61,5 +62,6 @@ pub(crate) fn interface<'a>(alloc: Global) -> Result<Command<'a>, AllocError>
         .subcommand(Command::new(alloc, "check"))?
         .subcommand(Command::new(alloc, "copy"))?
         .subcommand(one(alloc, "script")?)?
-        .subcommand(two(alloc, "games")?)
+        .subcommand(two(alloc, "games")?)?
+        .subcommand(two(alloc, "make")?)
 }

@@ -16,4 +16,5 @@ returns c =
     let check = next _ _ _ _ _ c.in_ok-subcommand-3.ensures look (record { shape = c.new.ensures.app; local = c.new.ensures.local }) in
     let copy = next _ _ _ _ _ c.in_ok-subcommand-4.ensures check (record { shape = c.new-2.ensures.app; local = c.new-2.ensures.local }) in
     let script = next _ _ _ _ _ c.in_ok-subcommand-5.ensures copy c.in_ok-one-2.ensures in
-    IfOk-weaker c.subcommand-6.result _ _ (λ m adds. next _ _ m _ _ adds script c.in_ok-two-2.ensures) c.subcommand-6.ensures
+    let games = next _ _ _ _ _ c.in_ok-subcommand-6.ensures script c.in_ok-two-2.ensures in
+    IfOk-weaker c.subcommand-7.result _ _ (λ m adds. next _ _ m _ _ adds games c.in_ok-two-3.ensures) c.subcommand-7.ensures
