@@ -72,13 +72,9 @@ fn executed(rt: &HostRuntime) -> Result<(), Problem> {
     let Ok(input) = String::from_utf8(bytes.into_vec()) else {
         return Err(Problem::Input);
     };
-    all_done(rt, &mut Club::new(rt.alloc(), 0, 0, "")?, &input)
-}
-
-/// Does what each line says.
-fn all_done(rt: &HostRuntime, club: &mut Club, input: &str) -> Result<(), Problem> {
+    let mut club = Club::new(rt.alloc(), 0, 0, "")?;
     for line in input.lines() {
-        if let Err(problem) = done(rt, club, line) {
+        if let Err(problem) = done(rt, &mut club, line) {
             eprintln!(rt; "{line}")?;
             return Err(problem);
         }
