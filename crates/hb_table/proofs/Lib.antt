@@ -14,7 +14,6 @@ mod SoundLemmas
 mod TimedLemmas
 mod StepLemmas
 mod FewSeatsLemmas
-mod KeptGamesLemmas
 mod AcceptLemmas
 mod RoomOpenLemmas
 mod ClerkLemmas

@@ -1,7 +1,6 @@
 pub mod State
 pub mod StateMoves
 pub mod Items
-pub mod KeptGames
 pub mod Keeps
 pub mod Changes
 pub mod Verdicts
