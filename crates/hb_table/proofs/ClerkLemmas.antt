@@ -261,7 +261,7 @@ save-is : (s : Site) (x : State) (d : Room) → s ≡ site_in d → IsTable s x.
 save-is s x d site table k = pick x.table.game refl
   where
     pick : (g : Option Setup) → x.table.game ≡ g → save_in s x g ≡ save_of d d.game
-    pick None game = let none : d.game ≡ None = k.game ∙ rw game refl in rw none refl
+    pick None game = let none : d.game ≡ None = k.game ∙ rw game refl in ap (save_of d) (sym none)
     pick (Some g) game = chosen (is_some (ended (played_game g x.table.items)) && not d.saved) refl ∙ ap (save_of d) (sym has)
       where
         has : d.game ≡ Some (played_game g x.table.items)

@@ -109,7 +109,8 @@ look-moves o e a d out = timed-moves o e a d d out (stays-same 1 d)
 pub no-start-moves : (e : Entry) (reply : Reply) (a b : Room) → KeepsEntry e reply a b → MovesHead false e a b
 no-start-moves e reply a b keeps = stays-moves e a b (stays-more 2 0 a a b (stays-same 2 a) (keeps-stays e reply a b keeps))
 
-play-started : (o : Option (List (Option (List ℕ)))) (seats : List (List ℕ)) → is_some o ≡ false → PlayAfter false o seats (Some (by_seat seats))
+play-started : (o : Option (List (Option (List ℕ)))) (seats : List (List ℕ)) → is_some o ≡ false
+    → PlayAfter false o seats (Some (by_seat seats))
 play-started None seats bare = refl
 play-started (Some names) seats bare = cc
 

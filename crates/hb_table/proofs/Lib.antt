@@ -14,6 +14,7 @@ mod SoundLemmas
 mod TimedLemmas
 mod StepLemmas
 mod FewSeatsLemmas
+mod KeptGamesLemmas
 mod AcceptLemmas
 mod RoomOpenLemmas
 mod ClerkLemmas

@@ -87,7 +87,8 @@ shows-game s t v is = loads t.loaded refl
       told = sym (ap (λ (o : Option Setup). pieces_for v o t.items) game);
     }
 
-    loads : (l : Option Finished) → t.loaded ≡ l → ShowsGame (view_as v t) (option_map loaded_view t.loaded) (game_by t.loaded (position_in t))
+    loads : (l : Option Finished) → t.loaded ≡ l
+        → ShowsGame (view_as v t) (option_map loaded_view t.loaded) (game_by t.loaded (position_in t))
     loads (Some l) loaded =
         subst (λ (o : Option Finished). ShowsGame (view_as v t) (option_map loaded_view o) (game_by o (position_in t))) (sym loaded) refl
     loads None loaded =

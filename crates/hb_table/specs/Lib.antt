@@ -1,6 +1,7 @@
 pub mod State
 pub mod StateMoves
 pub mod Items
+pub mod KeptGames
 pub mod Keeps
 pub mod Changes
 pub mod Verdicts

@@ -84,7 +84,7 @@ fn is_saved(what: &What) -> bool
 }
 
 impl Room {
-    ghost use Rattle.std.specs.Prelude.{◌≡◌, ◌≤◌, false, length};
+    ghost use Rattle.std.specs.Prelude.{◌≡◌, ◌≤◌, None, false, true, length};
     ghost use Rattle.hb_rules.specs.declared.limits.TheConstants.{MOST_PLAYERS};
     ghost use Rattle.hb_club.specs.Seating.{seated_after};
     ghost use Rattle.hb_playing.specs.Games.{game_after};
@@ -94,6 +94,7 @@ impl Room {
     pub(crate) fn add(&mut self, item: Item)
         requires room { HasRoom self.old }
         requires few { length (seated_after item.what self.old.seats.items) ≤ MOST_PLAYERS }
+        requires bare { is_seating item.what ≡ true → self.old.game ≡ None }
         ensures adds { AddsItem item.moment item.what
             (review_after item.what (game_after item.what self.old.game) self.old.review)
             self.old self.new }

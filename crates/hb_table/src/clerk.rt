@@ -40,7 +40,7 @@ impl Room {
     ghost use Rattle.hb_club.specs.HallAnswers.{HasRun};
     ghost use Rattle.hb_club.specs.RoomEvents.{Added, AsksTodo, Due, Loaded, Notes, Saved, note_event, read_text};
     ghost use Rattle.hb_club.specs.WholeGames.{BringsWhole};
-    ghost use Rattle.hb_playing.specs.KeptRows.{row_with};
+    ghost use Rattle.hb_playing.specs.KeptRows.{IsKeepable, row_with};
     ghost use Rattle.hb_table.specs.Changes.{HasItem, HasRoom, LoadsGame, SameFacts};
     ghost use Rattle.hb_table.specs.Clerk.{Noting, game_in_time, is_due_in, key_in, save_at};
     ghost use Rattle.hb_table.specs.Keeps.{site_in};
@@ -107,15 +107,16 @@ impl Room {
         Ok(Some((self.key(), row)))
     }
 
-    /// The row that is kept of the game of the latest table. The names are those of each game that
-    /// a room starts, so the error is that memory ran out.
+    /// The row that is kept of the game of the latest table.
     fn row_of(&self, alloc: Global, game: &Game) -> Result<GameRow, AllocError>
+        requires { IsKeepable self.now.seats.items self.now.name game.now }
         ensures { IfOk result (λ row.
             row ≡ row_with self.now.seats.items self.now.name game.now self.now.notes.notes) }
     {
         match row(alloc, &self.seats, &self.name, game, &self.notes) {
             Ok(row) => Ok(row),
-            Err(RowError::NoMemory | RowError::Differs) => Err(AllocError),
+            Err(RowError::NoMemory) => Err(AllocError),
+            Err(RowError::Differs) => unreachable!(),
         }
     }
 

@@ -2,6 +2,8 @@
 
 ghost use Rattle.std.specs.Prelude.{◌≡◌, ◌<◌, ◌≤◌, ◌^◌, IfOk, length};
 ghost use Rattle.hb_rules.specs.declared.limits.TheConstants.{MOST_PLAYERS};
+ghost use Rattle.hb_replay.specs.Contents.{HasTimes};
+ghost use Rattle.hb_table.specs.KeptGames.{IsBare, IsKept};
 
 use hb_club::{Item, PLACES, Shoe};
 use hb_deck::Deck;
@@ -60,6 +62,10 @@ pub struct Room {
     pub(crate) review: Option<GameReview>,
     ghost run_in_range: { run < 2 ^ 63 },
     ghost few_seats: { length seats.items ≤ MOST_PLAYERS },
+    // By these a row of the game can be kept once it has ended.
+    ghost held_times: { HasTimes options },
+    ghost bare: { IsBare names game },
+    ghost keepable: { IsKept seats.items name game },
 }
 
 /// A copy of a shoe.

@@ -31,6 +31,7 @@ impl Room {
     ghost use Rattle.hb_table.specs.Changes.{HasRoom, SameFacts, StartsGame};
     ghost use Rattle.hb_table.specs.HeadMoves.{MovesHead};
     ghost use Rattle.hb_table.specs.Keeps.{site_in};
+    ghost use Rattle.hb_table.specs.KeptGames.{IsKept};
     ghost use Rattle.hb_table.specs.Starts.{IsDealtFor, IsStart, IsStarting, timer_when};
     ghost use Rattle.hb_table.specs.Steps.{Steps, stamp_for};
 
@@ -64,6 +65,7 @@ impl Room {
     fn start_with(&mut self, moment: u64, game: Option<Game>)
         requires room { HasRoom self.old }
         requires range { moment ≤ MOMENT_LIMIT }
+        requires keepable { IsKept self.old.seats.items self.old.name game }
         ensures { StartsGame moment (by_seat self.old.seats.items) game (timer_when moment game)
             self.old self.new }
     {

@@ -42,8 +42,8 @@ returns-clause-view c =
 
 pub returns-then-not-self-clause-head : goal.returns-then-not-self-clause-head
 returns-then-not-self-clause-head c =
-    step-moves true c.args.e.now c.args.self.now c.reserve.new.self c.open_next.new.self c.open_next.result c.reserve.ensures.same (search rules)
-    c.open_next.ensures.head
+    step-moves true c.args.e.now c.args.self.now c.reserve.new.self c.open_next.new.self c.open_next.result c.reserve.ensures.same
+    (search rules) c.open_next.ensures.head
 
 pub returns-then-is_none-clause-head : goal.returns-then-is_none-clause-head
 returns-then-is_none-clause-head c =
