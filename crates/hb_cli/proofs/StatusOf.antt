@@ -1,5 +1,5 @@
 -- Which cause does a status have?
-use Rattle.std.proofs.Common.{◌≡◌, ◌≢◌, inl, inr, refl, subst}
+use Rattle.std.proofs.Common.{◌≡◌, ◌≢◌, ℕ, inl, inr, refl, subst}
 use Rattle.std.specs.Prelude.{◌⊎◌}
 use Rattle.hb_replay.specs.declared.errors.ReplayError.{ReplayError}
 use Rattle.hb_replay.specs.declared.errors.ReplayError.TheVariants as refusal
@@ -42,6 +42,17 @@ refusal_status-KeeperFault (refusal.Action k rule) is = cc
 refusal_status-KeeperFault refusal.Notes is = cc
 refusal_status-KeeperFault refusal.NoMemory is = cc
 
+refusal_status-StoreDiffers : (e : ReplayError) → refusal_status e ≡ status.StoreDiffers → ⊥
+refusal_status-StoreDiffers refusal.Json is = cc
+refusal_status-StoreDiffers (refusal.Shape place) is = cc
+refusal_status-StoreDiffers refusal.Players is = cc
+refusal_status-StoreDiffers refusal.Variant is = cc
+refusal_status-StoreDiffers (refusal.Option name) is = cc
+refusal_status-StoreDiffers refusal.Deck is = cc
+refusal_status-StoreDiffers (refusal.Action k rule) is = cc
+refusal_status-StoreDiffers refusal.Notes is = cc
+refusal_status-StoreDiffers refusal.NoMemory is = cc
+
 -- `Usage` is the status of no other cause
 pub status_of-Usage : (why : Stop) → status_of why ≡ status.Usage → why ≡ stop.Usage
 status_of-Usage stop.Usage is = refl
@@ -83,6 +94,20 @@ status_of-KeeperFault stop.NoSuchView is = cc
 status_of-KeeperFault stop.NoMemory is = cc
 status_of-KeeperFault (stop.StoreDiffers id) is = cc
 status_of-KeeperFault stop.UsedUp is = cc
+
+-- `StoreDiffers` is the status of no other cause
+pub status_of-StoreDiffers : (why : Stop) → status_of why ≡ status.StoreDiffers → (id : ℕ) × (why ≡ stop.StoreDiffers id)
+status_of-StoreDiffers stop.Usage is = absurd cc
+status_of-StoreDiffers stop.ReadFault is = absurd cc
+status_of-StoreDiffers stop.WriteFault is = absurd cc
+status_of-StoreDiffers stop.TooLong is = absurd cc
+status_of-StoreDiffers (stop.Refused e) is = absurd (refusal_status-StoreDiffers e is)
+status_of-StoreDiffers (stop.Line number) is = absurd cc
+status_of-StoreDiffers stop.KeeperFault is = absurd cc
+status_of-StoreDiffers stop.NoSuchView is = absurd cc
+status_of-StoreDiffers stop.NoMemory is = absurd cc
+status_of-StoreDiffers (stop.StoreDiffers id) is = (id, refl)
+status_of-StoreDiffers stop.UsedUp is = absurd cc
 
 refusal_refused : (e : ReplayError) → IsRefused (refusal_status e)
 refusal_refused refusal.Json = tt

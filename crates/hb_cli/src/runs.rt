@@ -1,9 +1,11 @@
 //! What does the program do with its words, its input, its two outputs and its keeper?
 
-ghost use Rattle.std.specs.Prelude.{◌≡◌, ◌⊎◌, ⊤, false};
+ghost use Rattle.std.specs.Prelude.{◌≡◌, ◌≢◌, ◌⊎◌, ⊤, false};
 ghost use Rattle.std.specs.Io.KnownBytes.{IsAtEnd};
 ghost use Rattle.hb_io.specs.Causes.{Rose};
+ghost use Rattle.hb_keeper.specs.KeptGames.{Content};
 ghost use Rattle.hb_house.specs.KeeperSteps.{Tells};
+ghost use Rattle.hb_house.specs.KeptOnce.{NoLaterRun};
 ghost use Rattle.hb_cli.specs.declared.status.Stop.{Stop as Cause};
 ghost use Rattle.hb_cli.specs.declared.status.Stop.TheVariants as stop_is;
 ghost use Rattle.hb_cli.specs.Asked.{AsksNoGames, AsksNoScript, AsksToRead, ReadsNothing, asked};
@@ -59,6 +61,11 @@ pub fn run<S: Source, O: Sink, E: Sink, K: Keeper>(
         → Rose (S.faults source.old) (S.faults source.new) }
     ensures keeper_fault { result ≡ Status.KeeperFault
         → Rose (K.faults keeper.old) (K.faults keeper.new) }
+
+    // A store that tells its content, in which no game is of a run behind its last one, is never
+    // found to differ.
+    ensures sound { (c : Content) → K.tells keeper.old c → NoLaterRun c → K.is_sure keeper.new
+        → result ≢ Status.StoreDiffers }
 
     // `WriteFault`: `out` failed, and the line that says so is written to `err`, or `err` failed in
     // it as well; or `err` failed in the line of another cause.

@@ -21,20 +21,20 @@ use Rattle.hb_house.specs.KeptOnce.{OwnIfTold, WasDue}
 use Rattle.hb_house.proofs.GoesOnLemmas.{all-on, asks-on, goes_on-same, goes_on-trans, others-on, settle_stops-on, settles-on}
 use Rattle.hb_house.proofs.OwnGamesLemmas.{own-failed, own-on, own-put, own-worked, was_due-on}
 
--- what is due has the key of its room
+-- what is due has the key of its room, in the run of the house
 
-save-room : (s : Site) (t : Table) (past : List Happening) (g : Option Setup) (key : Key) (row : GameRow)
-    → save_of s t past g ≡ Some (key, row) → key.room ≡ s.room
-save-room s t past None key row is = let bad : ◌≡◌ {A = Option (Key × GameRow)} None (Some (key, row)) = is in absurd cc
-save-room s t past (Some g) key row is = by (is_due t) is
+save-key : (s : Site) (t : Table) (past : List Happening) (g : Option Setup) (key : Key) (row : GameRow)
+    → save_of s t past g ≡ Some (key, row) → (key.run ≡ s.run) × (key.room ≡ s.room)
+save-key s t past None key row is = let bad : ◌≡◌ {A = Option (Key × GameRow)} None (Some (key, row)) = is in absurd cc
+save-key s t past (Some g) key row is = by (is_due t) is
   where
-    by : (b : Bool) → save_when b s t past g ≡ Some (key, row) → key.room ≡ s.room
+    by : (b : Bool) → save_when b s t past g ≡ Some (key, row) → (key.run ≡ s.run) × (key.room ≡ s.room)
     by false none = let bad : ◌≡◌ {A = Option (Key × GameRow)} None (Some (key, row)) = none in absurd cc
     by true one =
         let own : Key = record { run = s.run; room = s.room; serial = t.latest } in
         let whole : ◌≡◌ {A = Option (Key × GameRow)} (Some (own, row_of t past g)) (Some (key, row)) = one in
         let same : ◌≡◌ {A = Key × GameRow} (own, row_of t past g) (key, row) = cc in
-        sym (ap (λ (x : Key × GameRow). x.0.room) same)
+        (sym (ap (λ (x : Key × GameRow). x.0.run) same), sym (ap (λ (x : Key × GameRow). x.0.room) same))
 
 -- what a room has for the clerk is read off its table, once time was applied
 pub todo-is : (s : Site) (moment : ℕ) (events : List RoomEvent) (todo : Todo) → answer_to s (AsksTodo moment ∷ events) ≡ Due todo
@@ -45,28 +45,32 @@ todo-is s moment events todo is =
     let t = timed_table s past (in_time moment) in
     let same : ◌≡◌ {A = Outcome} (Due (todo_of s t past)) (Due todo) = is in cc
 
-due-room : (s : Site) (moment : ℕ) (events : List RoomEvent) (todo : Todo) (key : Key) (row : GameRow)
-    → answer_to s (AsksTodo moment ∷ events) ≡ Due todo → todo.save ≡ Some (key, row) → key.room ≡ s.room
-due-room s moment events todo key row is save =
+due-key : (s : Site) (moment : ℕ) (events : List RoomEvent) (todo : Todo) (key : Key) (row : GameRow)
+    → answer_to s (AsksTodo moment ∷ events) ≡ Due todo → todo.save ≡ Some (key, row)
+    → (key.run ≡ s.run) × (key.room ≡ s.room)
+due-key s moment events todo key row is save =
     let past = past_of s events in
     let t = timed_table s past (in_time moment) in
-    save-room s t past t.game key row (ap (λ (x : Todo). x.save) (todo-is s moment events todo is) ∙ save)
+    save-key s t past t.game key row (ap (λ (x : Todo). x.save) (todo-is s moment events todo is) ∙ save)
 
--- each game that is due here was due at the table of its key
-Dues : House → Fronts → Option (Key × GameRow) → Type 0
-Dues h f save = (key : Key) (row : GameRow) → save ≡ Some (key, row) → WasDue (site_of h key.room) (f.rooms key.room) key row
+-- each game that is due has a key of the house's run, at whose table it was due
+unfoldable pub Dues : House → Fronts → Option (Key × GameRow) → Type 0
+Dues h f save = (key : Key) (row : GameRow) → save ≡ Some (key, row)
+    → (key.run ≡ h.run) × WasDue (site_of h key.room) (f.rooms key.room) key row
 
-asks-dues : (h : House) (f : Fronts) (alone : Bool) (room moment : ℕ) (old : List RoomEvent) (asks : Asks alone (site_of h room) moment old)
+-- what the clerk is told at a room was due there
+pub asks-dues : (h : House) (f : Fronts) (alone : Bool) (room moment : ℕ) (old : List RoomEvent)
+    (asks : Asks alone (site_of h room) moment old)
     → GoesOn (AsksTodo moment ∷ asks.others ++ old) (f.rooms room) → Dues h f asks.todo.save
 unfolding Dues
 asks-dues h f alone room moment old asks on key row save =
     let s = site_of h room in
     let asked = AsksTodo moment ∷ asks.others ++ old in
-    let at : key.room ≡ room = due-room s moment (asks.others ++ old) asks.todo key row asks.answer save in
+    let own : (key.run ≡ h.run) × (key.room ≡ room) = due-key s moment (asks.others ++ old) asks.todo key row asks.answer save in
     let then : WasDue s asked key row =
     record { older = asked; goes_on = goes_on-same refl; todo = asks.todo; answer = asks.answer; save = save } in
     let here : WasDue s (f.rooms room) key row = was_due-on s asked (f.rooms room) key row on then in
-    subst (λ k. WasDue (site_of h k) (f.rooms k) key row) (sym at) here
+    (own.0, subst (λ k. WasDue (site_of h k) (f.rooms k) key row) (sym own.1) here)
 
 -- parts of a round
 
@@ -75,7 +79,7 @@ own-saves : (h : House) (f : Fronts) (alone : Bool) (s : Site) (moment : ℕ) (s
 unfolding Dues
 own-saves h f alone s moment None old new c d r t dues is own = subst (OwnIfTold h f) (sym is.1) own
 own-saves h f alone s moment (Some save) old new c d r t dues is own =
-    own-worked h f (put_on save.0 save.1) (Ok is.id) c d (λ x mine. own-put h f x save.0 save.1 mine (dues save.0 save.1 refl)) is.put own
+    own-worked h f (put_on save.0 save.1) (Ok is.id) c d (λ x mine. own-put h f x save.0 save.1 mine (dues save.0 save.1 refl).1) is.put own
 
 own-loads : (h : House) (f : Fronts) (alone : Bool) (s : Site) (moment : ℕ) (load : Option (ℕ × ℕ)) (old new : List RoomEvent)
     (c d : Telling) (r t : Report) → Loads alone s moment load old new c d r t → OwnIfTold h f c → OwnIfTold h f d
@@ -89,9 +93,9 @@ unfolding Dues
 own-save_stops h f alone None why old new c d r t dues is own = absurd is
 own-save_stops h f alone (Some save) why old new c d r t dues (inl put) own =
     own-failed h f (put_on save.0 save.1) put.refusal (next_failure c.plan) c d
-    (λ x mine. own-put h f x save.0 save.1 mine (dues save.0 save.1 refl)) put.failed.content own
+    (λ x mine. own-put h f x save.0 save.1 mine (dues save.0 save.1 refl).1) put.failed.content own
 own-save_stops h f alone (Some save) why old new c d r t dues (inr saved) own =
-    own-worked h f (put_on save.0 save.1) (Ok saved.id) c d (λ x mine. own-put h f x save.0 save.1 mine (dues save.0 save.1 refl))
+    own-worked h f (put_on save.0 save.1) (Ok saved.id) c d (λ x mine. own-put h f x save.0 save.1 mine (dues save.0 save.1 refl).1)
     saved.put own
 
 own-load_stops : (h : House) (f : Fronts) (alone : Bool) (load : Option (ℕ × ℕ)) (why : ClerkError) (old new : List RoomEvent)

@@ -16,6 +16,8 @@ pub mod CalmItemsLemmas
 pub mod StoppedClockLemmas
 pub mod DueRowsLemmas
 pub mod RefusedPutLemmas
+pub mod ToldContentLemmas
+pub mod NeverDiffersLemmas
 pub mod DueTablesLemmas
 pub mod SavedRoundsLemmas
 pub mod PendingRoomsLemmas

@@ -1,5 +1,5 @@
 -- What is known of a keeper, and what does a call of it leave known?
-use Rattle.std.specs.Prelude.{◌≡◌, ◌⊎◌, ℕ, ⊤, List, Option, Some, None, Result, Err}
+use Rattle.std.specs.Prelude.{◌≡◌, ◌⊎◌, ℕ, ⊤, true, is_some, List, Option, Some, None, Result, Err}
 use Rattle.hb_keeper.specs.declared.errors.KeepError.{KeepError}
 use Rattle.hb_keeper.specs.declared.errors.KeepError.TheVariants as keep
 use Rattle.hb_keeper.specs.declared.fails.When.{When}
@@ -13,6 +13,10 @@ use Rattle.hb_keeper.specs.Told.{Plans}
 pub record Telling : Type 0 where
   pub content : Option Content
   pub plan : Option (List (ℕ × When))
+
+-- the content is among it
+abbrev pub IsTold : Telling → Type 0
+IsTold c = is_some c.content ≡ true
 
 abbrev pub TellsContent : (Content → Type 0) → Option Content → Type 0
 TellsContent tells None = ⊤

@@ -13,9 +13,10 @@ use Rattle.hb_club.specs.Fronts.{AllGoOn, Fronts, GoesOn, House, site_of}
 use Rattle.hb_club.specs.RoomEvents.{Added, Due, RoomEvent, Site, note_event}
 use Rattle.hb_club.specs.Rooms.{answer_to}
 use Rattle.hb_house.specs.declared.reports.ClerkError.{ClerkError}
+use Rattle.hb_house.specs.declared.reports.ClerkError.TheVariants as clerk
 use Rattle.hb_house.specs.ClerkRounds.{Place, Rounds, StepAt, Then}
 use Rattle.hb_house.specs.ClerkStops.{RoundStops}
-use Rattle.hb_house.specs.KeeperSteps.{Telling}
+use Rattle.hb_house.specs.KeeperSteps.{IsTold, Telling}
 
 -- at some event of the list the clerk was answered that this game is due
 pub record WasDue (s : Site) (events : List RoomEvent) (key : Key) (row : GameRow)
@@ -81,6 +82,13 @@ abbrev pub DueNeverDiffers : Type 0
 DueNeverDiffers = (h : House) (f : Fronts) (c : Content) (key : Key) (row : GameRow) (id : ℕ)
     → OwnGames h f c → key.run ≡ h.run → WasDue (site_of h key.room) (f.rooms key.room) key row
     → (put_on key row c).0 ≢ Err (KeyDiffers id)
+
+-- so the clerk never stops for a key that differs, if the keeper tells its content
+abbrev pub ClerkNeverDiffers : Type 0
+ClerkNeverDiffers = (alone : Bool) (h : House) (moment id : ℕ) (p : Place) (n room : ℕ)
+    (q : Place) → Then (Rounds alone h moment p n)
+    (StepAt room (RoundStops alone (site_of h room) moment (clerk.KeyDiffers id))) q
+    → IsTold p.keeper → OwnIfTold h p.fronts p.keeper → ⊥
 
 -- a game is refused under a kept key only if another one is kept there
 abbrev pub DiffersOnly : Type 0

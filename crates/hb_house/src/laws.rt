@@ -1,6 +1,7 @@
 //! Which laws hold of the games that the clerk keeps, and of what its notes add?
 
-ghost use Rattle.hb_house.specs.KeptOnce.{DiffersOnly, DueAlike, DueNeverDiffers, KeptOnce, NotesAdd, UsedUpOnly};
+ghost use Rattle.hb_house.specs.KeptOnce.{ClerkNeverDiffers, DiffersOnly, DueAlike, DueNeverDiffers, KeptOnce};
+ghost use Rattle.hb_house.specs.KeptOnce.{NotesAdd, UsedUpOnly};
 ghost use Rattle.hb_house.specs.RoundLaws.{AloneSaves, DueAreLoaded, DueAreSaved};
 
 /// A law, with no work to do: of a run's games a keeper that tells its content contains one row
@@ -9,11 +10,12 @@ ghost use Rattle.hb_house.specs.RoundLaws.{AloneSaves, DueAreLoaded, DueAreSaved
 /// and behind each call of the clerk, also one that stops.
 ///
 /// Each time that the game of a table is due its row is the same. So such a keeper never answers
-/// that the key of a due game is kept with another game.
+/// that the key of a due game is kept with another game, and the clerk never stops for that.
 pub fn kept_once()
     ensures once { KeptOnce }
     ensures alike { DueAlike }
     ensures same { DueNeverDiffers }
+    ensures never { ClerkNeverDiffers }
 {}
 
 /// A law, with no work to do: behind the round of a room in which a game was due, the game is noted

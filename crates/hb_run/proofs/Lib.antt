@@ -1,5 +1,6 @@
 pub mod SentLemmas
 pub mod LinesGoOnLemmas
+pub mod OwnRunsLemmas
 pub mod HeldLemmas
 pub mod TurnLinesLemmas
 pub mod ClerkLinesLemmas

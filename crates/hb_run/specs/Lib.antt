@@ -4,6 +4,7 @@ pub mod HeldRuns
 pub mod ScriptRuns
 pub mod RunSteps
 pub mod ScriptLaws
+pub mod OwnRuns
 pub mod LoneRuns
 pub mod ConnSights
 pub mod AlikeScripts

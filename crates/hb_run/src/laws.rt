@@ -2,12 +2,19 @@
 
 ghost use Rattle.hb_run.specs.AlikeScripts.{AlikeScripts};
 ghost use Rattle.hb_run.specs.LoneRuns.{LoneEnds, LoneFronts, LoneRuns};
+ghost use Rattle.hb_run.specs.OwnRuns.{RunsNeverDiffer};
 ghost use Rattle.hb_run.specs.ScriptLaws.{RunsJoin};
 
 /// A law, with no work to do: lists of lines that are run one after the other, each from the state
 /// that the one before left, do and write what their lines do in one list.
 pub fn runs_join()
     ensures { RunsJoin }
+{}
+
+/// A law, with no work to do: no lines stop because a key is kept with another game, if the keeper
+/// tells what it contains, and of the house's run contains only games that were due at its tables.
+pub fn runs_never_differ()
+    ensures { RunsNeverDiffer }
 {}
 
 /// A law, with no work to do: over a hall that nobody else calls, with a keeper that tells what it

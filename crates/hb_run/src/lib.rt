@@ -2,9 +2,10 @@
 //!
 //! [`run_script`] runs lines in order, over any [`Hall`](hb_house::Hall) and any
 //! [`Keeper`](hb_keeper::Keeper): what a connection says is a turn of its session, and a line of
-//! the clerk is one call of [`clerk`](hb_house::clerk). Each text is written at once, behind the
-//! number of its connection, so that no text is kept. A [`ScriptRun`] goes on: lists of lines that
-//! are run one after the other do what their lines do in one list ([`runs_join`]).
+//! the clerk is one call of [`clerk`](hb_house::clerk). The texts of a turn are written at once,
+//! each behind the number of its connection, so that no text is kept. A [`ScriptRun`] goes on:
+//! lists of lines that are run one after the other do what their lines do in one list
+//! ([`runs_join`]).
 //!
 //! `specs/RunLines.antt` says what a line does and writes, and `specs/ScriptRuns.antt` what lines
 //! do, and what was done and written if a run stops. Both are relations, since events of others may
@@ -23,5 +24,5 @@ mod texts;
 
 pub use ends::RunEnd;
 pub use held::ScriptRun;
-pub use laws::{lone_scripts, runs_join, scripts_see_the_view};
+pub use laws::{lone_scripts, runs_join, runs_never_differ, scripts_see_the_view};
 pub use runs::run_script;
