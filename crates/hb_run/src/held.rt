@@ -1,7 +1,8 @@
 //! What does a run hold between its lines?
 
-ghost use Rattle.std.specs.Prelude.{◌≡◌};
+ghost use Rattle.std.specs.Prelude.{◌≡◌, ◌+◌};
 ghost use Rattle.std.specs.Vec.{vec_len};
+ghost use Rattle.hb_talk.specs.declared.scripts.TheConstants.{MOST_CONNECTION};
 
 use hb_desk::Desk;
 
@@ -13,5 +14,5 @@ pub struct ScriptRun {
     pub(crate) failed: bool,
     /// The greatest number, if it is as many or more.
     pub(crate) bytes: u64,
-    ghost seats: { vec_len desks ≡ 257 },
+    ghost all_connections: { vec_len desks ≡ MOST_CONNECTION + 1 },
 }
