@@ -170,7 +170,8 @@ module _ (words : List (List ℕ)) (bytes : List ℕ) where
   idle (stop.Line n) given u (inr (inr (inl (store, name, is, any)))) = script-games words u.0 store name u.1 is
   idle (stop.Line n) given u (inr (inr (inr (tables, seed, is, any)))) = script-make words u.0 tables seed u.1 is
   idle stop.NoSuchView given (c, other, (s, read, none)) (inl (text, (command, is, (r, also, view, same)))) =
-      let seen : IsTrue (has_view c s.game) = subst (λ (k : ReplayCommand). IsTrue (has_view k s.game)) (same-replay words command c is other)
+      let seen : IsTrue (has_view c s.game) =
+      subst (λ (k : ReplayCommand). IsTrue (has_view k s.game)) (same-replay words command c is other)
       (subst (λ (t : Contents). IsTrue (has_view command t.game)) (read-once bytes r s also read) view) in
       seen-or-not (has_view c s.game) seen none
   idle stop.NoSuchView given u (inr (inl (store, is, read))) = replay-script words u.0 store u.1 is

@@ -50,7 +50,8 @@ listed name before after plan next sure lines Wrote keeps plans wrote = λ c tol
 -- the lines of a script behind the call that began a run
 module _ (before mid : Content → Type 0) (plan next : Option (List (ℕ × When))) (Stood Stands : Fronts → Type 0)
     (Left : Telling → Type 0) (now then : Type 0) (s : Script) (run : ℕ) (out : Sent) (h : House) (count : ℕ)
-    (in_house : h ≡ house_with s.shoe run) (of_rooms : count ≡ MOST_ROOMS) (back : now → then) (keeps : then → Keeps open_run_on before mid (Ok run)) (plans : Plans {A = ℕ} plan next (Ok run)) (stood : Stood no_events) where
+    (in_house : h ≡ house_with s.shoe run) (of_rooms : count ≡ MOST_ROOMS) (back : now → then)
+    (keeps : then → Keeps open_run_on before mid (Ok run)) (plans : Plans {A = ℕ} plan next (Ok run)) (stood : Stood no_events) where
   pub ran : (faulted : Bool)
       → AtEach Stood (Tells mid next) now (λ f c. RunsAll (EndsAt Stands Left faulted) h count true s.lines
       (first_state f c) out.held_before out.held)
@@ -61,8 +62,10 @@ module _ (before mid : Content → Type 0) (plan next : Option (List (ℕ × Whe
       record {
         begun = record { run = run; keeper = was.keeper; began = was.is };
         lines = left-all _ _ _ _ _ s.lines (first_state no_events was.keeper) _ _ (λ t at. (at.outside.told, sym at.answer))
-            (subst (λ (x : House). RunsAll (EndsAt Stands Left faulted) x MOST_ROOMS true s.lines (first_state no_events was.keeper) out.held_before out.held) in_house
-            (subst (λ (n : ℕ). RunsAll (EndsAt Stands Left faulted) h n true s.lines (first_state no_events was.keeper) out.held_before out.held) of_rooms
+            (subst (λ (x : House). RunsAll (EndsAt Stands Left faulted) x MOST_ROOMS true s.lines
+            (first_state no_events was.keeper) out.held_before out.held) in_house
+            (subst (λ (n : ℕ). RunsAll (EndsAt Stands Left faulted) h n true s.lines
+            (first_state no_events was.keeper) out.held_before out.held) of_rooms
             (each no_events was.keeper stood was.told still)));
       }
 
@@ -76,8 +79,10 @@ module _ (before mid : Content → Type 0) (plan next : Option (List (ℕ × Whe
       record {
         begun = record { run = run; keeper = was.keeper; began = was.is };
         lines = left-some _ _ _ _ _ s.lines (first_state no_events was.keeper) _ _ why (λ t at. at.outside.told)
-            (subst (λ (x : House). RunsSome (StopsAt Stands Left faults_before faults) x MOST_ROOMS true s.lines (first_state no_events was.keeper) out.held_before out.held why) in_house
-            (subst (λ (n : ℕ). RunsSome (StopsAt Stands Left faults_before faults) h n true s.lines (first_state no_events was.keeper) out.held_before out.held why) of_rooms
+            (subst (λ (x : House). RunsSome (StopsAt Stands Left faults_before faults) x MOST_ROOMS true s.lines
+            (first_state no_events was.keeper) out.held_before out.held why) in_house
+            (subst (λ (n : ℕ). RunsSome (StopsAt Stands Left faults_before faults) h n true s.lines
+            (first_state no_events was.keeper) out.held_before out.held why) of_rooms
             (each no_events was.keeper stood was.told still)));
       }
 

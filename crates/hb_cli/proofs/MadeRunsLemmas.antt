@@ -72,7 +72,8 @@ pub made-ran : (before mid : Content → Type 0) (plan next : Option (List (ℕ 
     → Tells before plan fresh_keeper → now → sums.bytes ≢ MOST_BYTES
     → RanMade tables seed sums.bytes × (sums.acts ≡ made_acts tables seed) × (sums.score ≡ made_score tables seed)
 made-ran before mid plan next Stood now then run h count tables seed sums in_house of_rooms back keeps plans stood each told sure less =
-    let was = worked open_run_on before mid plan next then run fresh_keeper keeps plans told (sure_before fresh_keeper now then back sure) in
+    let was = worked open_run_on before mid plan next then run fresh_keeper keeps plans told
+    (sure_before fresh_keeper now then back sure) in
     let still = worked_sure now open_run_on fresh_keeper (Ok run) was.keeper was.is sure in
     let r : RunsMade (house_with (made_shoe seed) run) MOST_ROOMS true tables seed (first_state no_events was.keeper) sums =
     subst (λ (x : House). RunsMade x MOST_ROOMS true tables seed (first_state no_events was.keeper) sums) in_house

@@ -89,7 +89,8 @@ module _ (a : Asked) (Was Left : Telling → Type 0) (sure : Type 0) (out : Sent
   stops_by stop.UsedUp is nothing = absurd is
 
   -- a replay's text failed to be written, or there was none
-  pub replay_stops : (why : Stop) → (IsStop a why × Writes out []) ⊎ ((why ≡ stop.WriteFault) × ((text : List ℕ) × IsText a text × FailsIn out text))
+  pub replay_stops : (why : Stop)
+      → (IsStop a why × Writes out []) ⊎ ((why ≡ stop.WriteFault) × ((text : List ℕ) × IsText a text × FailsIn out text))
       → Stops a Was Left sure out why
   replay_stops why (inl plain) = stops_by why plain.0 plain.1
   replay_stops why (inr fails) = subst (Stops a Was Left sure out) (sym fails.0) (inr (inl fails.1))
@@ -118,12 +119,14 @@ is_script_asked a store bytes s is told short read = (store, is, pick a.told tol
 module _ (a : Asked) (out : Sent) where
   -- why a replay is not written is no fault of a keeper, and one of the output only if that failed
 
-  pub replay_keeper : (why : Stop) → (IsStop a why × Writes out []) ⊎ ((why ≡ stop.WriteFault) × ((text : List ℕ) × IsText a text × FailsIn out text))
+  pub replay_keeper : (why : Stop)
+      → (IsStop a why × Writes out []) ⊎ ((why ≡ stop.WriteFault) × ((text : List ℕ) × IsText a text × FailsIn out text))
       → why ≡ stop.KeeperFault → ⊥
   replay_keeper why (inl plain) e = subst (IsStop a) e plain.0
   replay_keeper why (inr fails) e = let other : stop.WriteFault ≡ stop.KeeperFault = sym fails.0 ∙ e in cc
 
-  pub replay_output : (why : Stop) → (IsStop a why × Writes out []) ⊎ ((why ≡ stop.WriteFault) × ((text : List ℕ) × IsText a text × FailsIn out text))
+  pub replay_output : (why : Stop)
+      → (IsStop a why × Writes out []) ⊎ ((why ≡ stop.WriteFault) × ((text : List ℕ) × IsText a text × FailsIn out text))
       → why ≡ stop.WriteFault → Rose out.faults_before out.faults
   replay_output why (inl plain) e = absurd (subst (IsStop a) e plain.0)
   replay_output why (inr (is, (text, asked_for, (count, less, front, rose)))) e = rose

@@ -78,7 +78,8 @@ ran stands h count alone hall s moment conn got texts old new run next holds was
         inside = record {
           desks = subst (AreDesks h state)
               (sym turns.desks)
-              (desks-turned h s g left (s.bytes + more) run.desks.items conn old new (calls-on alone count (asked x moment got) s.fronts g calls)
+              (desks-turned h s g left (s.bytes + more) run.desks.items conn old new
+              (calls-on alone count (asked x moment got) s.fronts g calls)
               holds.desks was leaves turn.fits);
           faulted = turns.failed ∙ holds.faulted;
           bytes = counted s.bytes more run.bytes next.bytes holds.bytes

@@ -37,7 +37,8 @@ by_walk s words = refl
 pub some_fault : (k : ErrorKind) (ks : Kinds) → k ∷ ks ≡ [] → ⊥
 some_fault k ks e = true≢false (ap is_some (ap (λ xs. slice_get xs 0) e))
 
-refused_by : (s : Shape) (words : List Text) (k : ErrorKind) → walk_fault s [] (at nothing_held 1) words ≡ k ∷ [] → fault_at s words ≡ [] → ⊥
+refused_by : (s : Shape) (words : List Text) (k : ErrorKind)
+    → walk_fault s [] (at nothing_held 1) words ≡ k ∷ [] → fault_at s words ≡ [] → ⊥
 refused_by s words k is e = some_fault k [] (sym (ap (λ faults. level_at s faults (end_of s words).held) is) ∙ e)
 
 module _ (name : Text) where
@@ -52,7 +53,8 @@ module _ (name : Text) where
   none_second = refl
 
   pub none_refused : (a : Text) (rest : List Text) → IsPlain a → fault_at (leaf (bare name)) (a ∷ rest) ≡ [] → ⊥
-  none_refused a rest plain = refused_by (leaf (bare name)) (a ∷ rest) UnknownArgument (fault_step [] a refl plain (leaf (bare name)) 1 nothing_held rest)
+  none_refused a rest plain = refused_by (leaf (bare name)) (a ∷ rest) UnknownArgument
+      (fault_step [] a refl plain (leaf (bare name)) 1 nothing_held rest)
 
   abbrev one : Shape
   one = leaf (with_one name)
@@ -89,7 +91,8 @@ module _ (name : Text) where
     one_second = ap (λ (w : Walk). first_of second_id (finished one.rules w.held)) one_walk
 
     pub one_more : (b : Text) (rest : List Text) → IsPlain b → fault_at one (a ∷ b ∷ rest) ≡ [] → ⊥
-    one_more b rest plain' = refused_by one (a ∷ b ∷ rest) UnknownArgument (one_faults (b ∷ rest) ∙ fault_step [] b refl plain' one 2 (held_one a) rest)
+    one_more b rest plain' = refused_by one (a ∷ b ∷ rest) UnknownArgument
+        (one_faults (b ∷ rest) ∙ fault_step [] b refl plain' one 2 (held_one a) rest)
 
   abbrev two : Shape
   two = leaf (with_two name)
@@ -144,4 +147,5 @@ module _ (name : Text) where
       both_second = ap (λ (w : Walk). first_of second_id (finished two.rules w.held)) both_walk
 
       pub both_more : (d : Text) (rest : List Text) → IsPlain d → fault_at two (a ∷ b ∷ d ∷ rest) ≡ [] → ⊥
-      both_more d rest plain'' = refused_by two (a ∷ b ∷ d ∷ rest) UnknownArgument (both_faults (d ∷ rest) ∙ fault_step [] d refl plain'' two 3 held_two rest)
+      both_more d rest plain'' = refused_by two (a ∷ b ∷ d ∷ rest) UnknownArgument
+          (both_faults (d ∷ rest) ∙ fault_step [] d refl plain'' two 3 held_two rest)

@@ -51,7 +51,9 @@ module _ (names : Names) (w : Text) (none : subcommand_met names idle w ≡ None
   walk_step c p h = ap (λ met. after_step c w (at h p) met.0 met.1) (plain_met c p h)
 
   pub fault_step : (s : Shape) (p : ℕ) (h : Held) (rest : List Text)
-      → walk_fault s names (at h p) (w ∷ rest) ≡ or_else (step_fault s p h value) (walk_fault s names (to_positional s.rules (arg_by_index s.rules p) w (at h p) h) rest)
+      → walk_fault s names (at h p) (w ∷ rest) ≡ or_else (step_fault s p h value)
+      (walk_fault s names (to_positional s.rules (arg_by_index s.rules p) w (at h p) h) rest)
   unfolding walk_fault walked
   fault_step s p h rest =
-      ap₂ (λ k met. or_else (or_else k (step_fault s p met.0 met.1)) (walk_fault s names (after_step s.rules w (at h p) met.0 met.1) rest)) (plain_fault s h) (plain_met s.rules p h)
+      ap₂ (λ k met. or_else (or_else k (step_fault s p met.0 met.1)) (walk_fault s names (after_step s.rules w (at h p) met.0 met.1) rest))
+      (plain_fault s h) (plain_met s.rules p h)

@@ -15,7 +15,8 @@ returns-in-Err-clause-stop g c = λ store told words is.
       store,
       c.args.name.now,
       is,
-      refused (of_member_on c.args.name.now) _ _ _ _ _ c.in-Err.error _ c.in-Err.ensures.keeps c.in-Err.ensures.planned c.in-Err.ensures.plan nothing,
+      refused (of_member_on c.args.name.now) _ _ _ _ _ c.in-Err.error _ c.in-Err.ensures.keeps c.in-Err.ensures.planned
+          c.in-Err.ensures.plan nothing,
     )
     nothing)
 
@@ -27,7 +28,8 @@ returns-clause-ok g c = λ store told words is.
       store,
       c.args.name.now,
       is,
-      listed c.args.name.now _ _ _ _ _ c.in-Ok.lines (Writes out) c.in-Ok.ensures.keeps c.in-Ok.ensures.plan (subst (Writes out) same wrote),
+      listed c.args.name.now _ _ _ _ _ c.in-Ok.lines (Writes out) c.in-Ok.ensures.keeps c.in-Ok.ensures.plan
+          (subst (Writes out) same wrote),
     ))
     c.write.ensures.ok
 
@@ -39,6 +41,7 @@ returns-clause-stop g c = λ store told words is.
       store,
       c.args.name.now,
       is,
-      listed c.args.name.now _ _ _ _ _ c.in-Ok.lines (FailsIn out) c.in-Ok.ensures.keeps c.in-Ok.ensures.plan (subst (FailsIn out) same fails.1),
+      listed c.args.name.now _ _ _ _ _ c.in-Ok.lines (FailsIn out) c.in-Ok.ensures.keeps c.in-Ok.ensures.plan
+          (subst (FailsIn out) same fails.1),
     ))
     c.write.ensures.stop

@@ -20,7 +20,8 @@ returns-in-Ok-run_script-clause-ok g c = λ a asks. (
   c.args.script.now,
   asks,
   ran _ _ _ _ _ _ _ _ _ c.args.script.now c.in-Ok.run' _ _ _ c.in-Ok-new.ensures.house c.in-Ok-new.ensures.count c.run_script.ensures.sure
-      c.in-Ok.ensures.keeps c.in-Ok.ensures.plan c.in-Ok-new.ensures.empty c.in-Ok-run_script.faulted (λ f k stood told sure. rw c.as_slice.ensures at (c.in-Ok-run_script.ensures.ok f k stood told sure)),
+      c.in-Ok.ensures.keeps c.in-Ok.ensures.plan c.in-Ok-new.ensures.empty c.in-Ok-run_script.faulted
+      (λ f k stood told sure. rw c.as_slice.ensures at (c.in-Ok-run_script.ensures.ok f k stood told sure)),
 )
 
 pub returns-clause-stop : goal.returns-clause-stop
@@ -28,6 +29,7 @@ returns-clause-stop g c = λ a asks.
     rw c.stop_of.ensures (run_stops a _ _ _ _ c.in-Err-run_script.end (not_worn _ (λ e. c.in-Err-run_script.ensures.worn (cc e))) (
       c.args.script.now,
       asks,
-      halted _ _ _ _ _ _ _ _ _ c.args.script.now c.in-Ok.run' _ _ _ c.in-Ok-new.ensures.house c.in-Ok-new.ensures.count c.run_script.ensures.sure
-          c.in-Ok.ensures.keeps c.in-Ok.ensures.plan c.in-Ok-new.ensures.empty c.in-Err-run_script.end _ _ (λ f k stood told sure. rw c.as_slice.ensures at (c.in-Err-run_script.ensures.err f k stood told sure)),
+      halted _ _ _ _ _ _ _ _ _ c.args.script.now c.in-Ok.run' _ _ _ c.in-Ok-new.ensures.house c.in-Ok-new.ensures.count
+          c.run_script.ensures.sure c.in-Ok.ensures.keeps c.in-Ok.ensures.plan c.in-Ok-new.ensures.empty c.in-Err-run_script.end _ _
+          (λ f k stood told sure. rw c.as_slice.ensures at (c.in-Err-run_script.ensures.err f k stood told sure)),
     ))

@@ -12,7 +12,8 @@ pub returns : goal.returns
 returns c = λ name rows met.
     let name_is : c.in_ok-name.name.now ≡ name =
     some_same (c.in_ok-name.ensures.name ∙ name_met (out-ArgMatches c.args.matches.now).subcommand name rows met) in
-    let rows_are : rows_of (found_of c.in_ok-name.found.now) ≡ rows = some_same (c.in_ok-name.ensures.rows ∙ ap (option_map (λ p. p.1)) met) in
+    let rows_are : rows_of (found_of c.in_ok-name.found.now) ≡ rows =
+    some_same (c.in_ok-name.ensures.rows ∙ ap (option_map (λ p. p.1)) met) in
     let first : option_map (λ s. s.now) c.get_str.result ≡ first_of first_id rows =
     c.get_str.ensures ∙ first_value-rows (found_of c.in_ok-name.found.now) first_id ∙ ap (first_of first_id) rows_are in
     let second : option_map (λ s. s.now) c.get_str-2.result ≡ first_of second_id rows =
