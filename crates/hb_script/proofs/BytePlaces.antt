@@ -6,10 +6,12 @@ use Rattle.std.proofs.Math.Seq.{drop-cons}
 use Rattle.hb_script.specs.ScriptLines.{at_space, lines_of, with_byte, with_front}
 use Rattle.hb_script.specs.ScriptReading.{feed_at, place_by, place_of}
 
+-- where the byte at a place is the wanted one, it is the first of its kind from there on
 pub place-here : (wanted i : ℕ) (bytes : List ℕ) → i < length bytes → (slice_index bytes i == wanted) ≡ true
     → place_of wanted (drop i bytes) ≡ 0
 place-here wanted i bytes low is = ap (place_of wanted) (drop-cons bytes i 0 low) ∙ rw is refl
 
+-- where the byte at a place is another, the wanted one is one place further than from the next byte on
 pub place-more : (wanted i : ℕ) (bytes : List ℕ) → i < length bytes → (slice_index bytes i == wanted) ≡ false
     → place_of wanted (drop i bytes) ≡ suc (place_of wanted (drop (suc i) bytes))
 place-more wanted i bytes low is = ap (place_of wanted) (drop-cons bytes i 0 low) ∙ rw is refl
@@ -25,6 +27,7 @@ cut_by : (is : Bool) (b : ℕ) (bytes : List ℕ) → (place_of 32 bytes < lengt
 cut_by true b bytes ih low = refl
 cut_by false b bytes ih low = let same = ih (omega (arith, low)) in rw same refl
 
+-- a text with a space is cut into the bytes before its first space and those behind it
 pub space-cut : (bytes : List ℕ) → place_of 32 bytes < length bytes
     → at_space bytes ≡ Some (take (place_of 32 bytes) bytes, drop (suc (place_of 32 bytes)) bytes)
 space-cut [] low = absurd (omega (arith, low))
@@ -35,6 +38,7 @@ none_by : (is : Bool) (b : ℕ) (bytes : List ℕ) → (length bytes ≤ place_o
 none_by true b bytes ih far = absurd (omega (arith, far))
 none_by false b bytes ih far = let same = ih (omega (arith, far)) in rw same refl
 
+-- a text without a space is not cut in two
 pub space-none : (bytes : List ℕ) → length bytes ≤ place_of 32 bytes → at_space bytes ≡ None
 space-none [] far = refl
 space-none (b ∷ bytes) far = none_by (b == 32) b bytes (space-none bytes) far
@@ -51,6 +55,7 @@ line_by true b bytes ih = refl
 line_by false b [] ih = refl
 line_by false b (c ∷ bytes) ih = let same = ih c bytes refl in rw same refl
 
+-- a text with bytes has the line up to its first line feed, and then the lines of what stands behind it
 pub lines-cut : (b : ℕ) (bytes : List ℕ) → lines_of (b ∷ bytes)
     ≡ take (feed_at (b ∷ bytes)) (b ∷ bytes) ∷ lines_of (drop (suc (feed_at (b ∷ bytes))) (b ∷ bytes))
 lines-cut b [] = line_by (b == 10) b [] (λ c more e. absurd (nil≢cons c more e))

@@ -26,6 +26,7 @@ behind_one before said number (Ok lines) = ap (λ (l : List ScriptLine). (let r 
     r)) (sym (append_assoc before (said ∷ []) lines))
 behind_one before said number (Err bad) = refl
 
+-- if the next line says something, that is added to what was read, and reading goes on behind the line
 pub line-more : (first number end : ℕ) (bytes rest : List ℕ) (before : List ScriptLine) (said : ScriptLine) → 0 < length rest
     → end ≡ feed_at rest
     → read_lines first (lines_of bytes) ≡ lines_behind before (read_lines number (lines_of rest)) → Some said ≡ line_of (take end rest)
@@ -35,6 +36,7 @@ line-more first number end bytes rest before said low e so is =
     ∙ ap (λ (l : Option ScriptLine). with_line number l (read_lines (number + 1) (lines_of (drop (suc end) rest)))) (sym is))
     ∙ behind_one before said number (read_lines (number + 1) (lines_of (drop (suc end) rest)))
 
+-- if the next line is outside the grammar, the reading of all lines fails with the number of that line
 pub line-bad : (first number end : ℕ) (bytes rest : List ℕ) (before : List ScriptLine) → 0 < length rest → end ≡ feed_at rest
     → read_lines first (lines_of bytes) ≡ lines_behind before (read_lines number (lines_of rest)) → None ≡ line_of (take end rest)
     → read_lines first (lines_of bytes) ≡ Err number
@@ -42,6 +44,7 @@ line-bad first number end bytes rest before low e so is =
     so ∙ ap (lines_behind before) (first-line number end rest low e
     ∙ ap (λ (l : Option ScriptLine). with_line number l (read_lines (number + 1) (lines_of (drop (suc end) rest)))) (sym is))
 
+-- when no bytes are left, the lines read so far are all lines of the text
 pub lines-end : (first number : ℕ) (bytes : List ℕ) (before : List ScriptLine)
     → read_lines first (lines_of bytes) ≡ lines_behind before (read_lines number (lines_of []))
     → read_lines first (lines_of bytes) ≡ Ok before
@@ -52,9 +55,11 @@ lines-end first number bytes before so = so ∙ ap (λ (l : List ScriptLine). (l
 pub tail-is : (at : ℕ) (bytes : List ℕ) → take (length bytes - at) (drop at bytes) ≡ drop at bytes
 tail-is at bytes = ap (λ (n : ℕ). take n (drop at bytes)) (sym (length-drop at bytes)) ∙ take-length (drop at bytes)
 
+-- from a place within the bytes on, there is at least one byte
 pub tail-low : (at : ℕ) (bytes : List ℕ) → at < length bytes → 0 < length (drop at bytes)
 tail-low at bytes low = let d = length-drop at bytes in omega (arith, d, low)
 
+-- what holds behind a line of the tail holds behind the same place counted from the start of all bytes
 pub tail_after : (at end : ℕ) (bytes : List ℕ) (P : List ℕ → Type 0) → P (drop (suc end) (drop at bytes)) → P (drop (at + (end + 1)) bytes)
 tail_after at end bytes P p = let same : at + (end + 1) ≡ at + suc end = omega arith in
     subst (λ (n : ℕ). P (drop n bytes)) (sym same) (subst P (drop-drop (suc end) at bytes) p)

@@ -153,6 +153,7 @@ current-low g past two = omega arith
 
 -- the three choices, and the last one
 
+-- while the game runs, the current player breaks no rule by playing the lowest card that fits
 pub play-breaks_none : (p : Position) (a : Action) → ended p.setup p.past ≡ None → Some a ≡ fitting_play p
     → rule p.setup p.past (by (current p.setup p.past) a) ≡ None
 play-breaks_none p a e f = pick (find (fits p.setup p.past) (hand p.setup p.past (current p.setup p.past))) refl f
@@ -189,6 +190,7 @@ clue-of_card p order fair v e m h =
     seat-there : (n c : ℕ) → 2 ≤ n → nat_le n ((c + 1) % n) ≡ false
     seat-there n c two = let low : (c + 1) % n < n = omega arith in grind arith
 
+-- while a fair game of the five plain suits runs, the chosen clue of a rank breaks no rule
 pub clue-breaks_none : (p : Position) (a : Action) → IsFair p.setup → p.setup.variant ≡ no_variant → ended p.setup p.past ≡ None
     → Some a ≡ rank_clue p → rule p.setup p.past (by (current p.setup p.past) a) ≡ None
 clue-breaks_none p a fair v e f = pick (may_clue p) (lowest p (next_seat p)) refl refl f
@@ -201,6 +203,7 @@ clue-breaks_none p a fair v e f = pick (may_clue p) (lowest p (next_seat p)) ref
         let same : rank_clue_of p order ≡ a = cc in
         subst (λ (z : Action). rule p.setup p.past (by (current p.setup p.past) z) ≡ None) same (clue-of_card p order fair v e m h)
 
+-- while the game runs, the current player breaks no rule by the chosen discard of the lowest card
 pub discard-breaks_none : (p : Position) (a : Action) → ended p.setup p.past ≡ None → Some a ≡ lowest_discard p
     → rule p.setup p.past (by (current p.setup p.past) a) ≡ None
 discard-breaks_none p a e f = pick (nat_lt (tokens p.setup p.past) 8) (lowest p (current p.setup p.past)) refl refl f
@@ -219,6 +222,7 @@ discard-breaks_none p a e f = pick (nat_lt (tokens p.setup p.past) 8) (lowest p 
         subst (λ (z : Action). rule p.setup p.past (by (current p.setup p.past) z)
         ≡ None) same (discard-legal p.setup p.past order e held room)
 
+-- while a fair game runs, the current player breaks no rule by terminating it
 pub end-breaks_none : (p : Position) → IsFair p.setup → ended p.setup p.past ≡ None
     → rule p.setup p.past (by (current p.setup p.past) (action.End Terminated)) ≡ None
 end-breaks_none p fair e =
@@ -230,15 +234,19 @@ end-breaks_none p fair e =
 
 -- which choice is the first
 
+-- if there is a card that fits, the made action is to play it
 pub made-play : (p : Position) (a : Action) → Some a ≡ fitting_play p → a ≡ made_action p
 made-play p a f = let s = sym f in rw s refl
 
+-- if no card fits and a clue of a rank may be given, the made action is that clue
 pub made-clue : (p : Position) (a : Action) → None ≡ fitting_play p → Some a ≡ rank_clue p → a ≡ made_action p
 made-clue p a n f = let m = sym n in let s = sym f in rw (m, s) refl
 
+-- if no card fits, no clue may be given and a card may be discarded, the made action is that discard
 pub made-discard : (p : Position) (a : Action) → None ≡ fitting_play p → None ≡ rank_clue p → Some a ≡ lowest_discard p → a ≡ made_action p
 made-discard p a n o f = let m = sym n in let k = sym o in let s = sym f in rw (m, k, s) refl
 
+-- if there is no play, no clue and no discard to choose, the made action is to terminate the game
 pub made-end : (p : Position) → None ≡ fitting_play p → None ≡ rank_clue p → None ≡ lowest_discard p → action.End Terminated ≡ made_action p
 made-end p n o f = let m = sym n in let k = sym o in let s = sym f in rw (m, k, s) refl
 

@@ -16,6 +16,7 @@ use Rattle.hb_script.specs.MadeTables.{HasAsked}
 
 -- the game
 
+-- a game that is played on by no acts stays as it is
 pub played-done : (n : ℕ) (p : Position) → n ≡ 0 → played_on n p ≡ p
 unfolding played_on
 played-done n p e = ap (λ (k : ℕ). played_on k p) e
@@ -26,6 +27,7 @@ unfolding played_on
 played-ended zero p how e = refl
 played-ended (suc n) p how e = ap (λ (o : Option EndHow). played_on n (with_act o p)) e ∙ played-ended n p how e
 
+-- a game for which there is an end stays as it is, by however many acts it is played on
 pub played-some : (n : ℕ) (p : Position) → is_some (ended p) ≡ true → played_on n p ≡ p
 played-some n p e = pick (ended p) refl e
   where
@@ -51,24 +53,29 @@ pub seat-of : (b : Bool) (n k : ℕ) → Some k ≡ cond b None (Some n) → (k 
 seat-of true n k e = cc
 seat-of false n k e = (cc, refl)
 
+-- if the test for an end fails, there is no end
 pub none-of : (o : Option EndHow) → is_some o ≡ false → o ≡ None
 none-of (Some how) e = cc
 none-of None e = refl
 
+-- a number of players that is allowed is at most six
 pub few-players : (n : ℕ) → are_players n ≡ true → n ≤ 6
 few-players n e = grind arith
 
 -- the requests
 
+-- a list of zeros has zero at each place, and counts as zero beyond its end
 pub zeros : (k n : ℕ) → slice_index (replicate n 0) k ≡ 0
 zeros k zero = refl
 zeros zero (suc n) = refl
 zeros (suc k) (suc n) = zeros k n
 
+-- opening a table and seating its members takes one request more than there are members
 pub seated-length : (members : ℕ) → length (seated members) ≡ suc members
 seated-length zero = refl
 seated-length (suc members) = let ih = seated-length members in omega (arith, ih)
 
+-- a table has a request for each act, one for each player to sit, one to open and one to start
 pub asks-length : (players : ℕ) (past : List Act) → length (table_asks players past) ≡ length past + (players + 2)
 asks-length players [] = let s = seated-length players in omega (arith, s)
 asks-length players (act ∷ past) = let ih = asks-length players past in omega (arith, ih)

@@ -60,6 +60,7 @@ with_length n (Some x) (Some rest) items e ih =
     let m = ap length l in
     omega (arith, k, m)
 
+-- a text that pairs of bytes write as items has twice as many bytes as there are items
 pub pairs-length : {A : Type 0} (item : ℕ → ℕ → Option A) (text : List ℕ) (items : List A) → by_pairs item text ≡ Some items
     → length text ≡ 2 * length items
 pairs-length item [] items e = let l : [] ≡ items = cc in let m = ap length l in omega (arith, m)
@@ -77,15 +78,18 @@ deck-none text refuses = pick (by_pairs identity_of text) refl
     pick None h = refl
     pick (Some cards) h = let f = refuses cards (pairs-length identity_of text cards h) in rw f refl
 
+-- fewer than 25 cards are not within the sizes of a deck
 pub too-few : (n : ℕ) → n < 25 → (nat_le 25 n && nat_le n 60) ≡ false
 too-few n low = grind arith
 
+-- more than 60 cards are not within the sizes of a deck
 pub too-many : (n : ℕ) → 60 < n → (nat_le 25 n && nat_le n 60) ≡ false
 too-many n high = grind arith
 
 enough : (n : ℕ) → 25 ≤ n → n ≤ 60 → (nat_le 25 n && nat_le n 60) ≡ true
 enough n low high = grind arith
 
+-- cards that pairs of bytes write are a deck if the pairs number from 25 to 60
 pub deck-whole : (text : List ℕ) (cards : List Identity) → by_pairs identity_of text ≡ Some cards → 25 ≤ length text / 2
     → length text / 2 ≤ 60
     → Some cards ≡ if_sized (by_pairs identity_of text)
