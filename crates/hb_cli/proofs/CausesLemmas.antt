@@ -184,8 +184,10 @@ module _ (words : List (List ℕ)) (bytes : List ℕ) where
   idle (stop.StoreDiffers id) given u work = given
   idle stop.UsedUp given u work = given
 
+-- if words and an input give a cause why there is nothing to do, there is no work for them
 pub no-work-then : NoWorkThen
 no-work-then words bytes why given u work = idle words bytes why given u work
 
+-- words and an input give at most one cause why there is nothing to do
 pub one-cause : OneCause
 one-cause words bytes x y gx gy u v = one words bytes x y gx gy u v

@@ -52,6 +52,7 @@ module _ (before mid : Content → Type 0) (plan next : Option (List (ℕ × Whe
     (Left : Telling → Type 0) (now then : Type 0) (s : Script) (run : ℕ) (out : Sent) (h : House) (count : ℕ)
     (in_house : h ≡ house_with s.shoe run) (of_rooms : count ≡ MOST_ROOMS) (back : now → then)
     (keeps : then → Keeps open_run_on before mid (Ok run)) (plans : Plans {A = ℕ} plan next (Ok run)) (stood : Stood no_events) where
+  -- if the keeper began a run and all lines behind that call were run, the script was run to its end
   pub ran : (faulted : Bool)
       → AtEach Stood (Tells mid next) now (λ f c. RunsAll (EndsAt Stands Left faulted) h count true s.lines
       (first_state f c) out.held_before out.held)
@@ -69,6 +70,7 @@ module _ (before mid : Content → Type 0) (plan next : Option (List (ℕ × Whe
             (each no_events was.keeper stood was.told still)));
       }
 
+  -- if the keeper began a run and the lines behind that call stopped for a cause, so did the script
   pub halted : (why : RunEnd) (faults_before faults : ℕ)
       → AtEach Stood (Tells mid next) now (λ f c. RunsSome (StopsAt Stands Left faults_before faults) h count true s.lines
       (first_state f c) out.held_before out.held why)
@@ -97,6 +99,7 @@ not_worn why marked = λ e. no (marked e)
 -- which cause a refusal is
 
 module _ (a : Asked) (Was Left : Telling → Type 0) (sure : Type 0) (out : Sent) where
+  -- if the run of the script stopped, and not at a worn hall, the work stops for the cause of that
   pub run_stops : (why : RunEnd) → why ≢ ends.Worn → OfScript a Was sure (λ s. StoppedScript Left s why out)
       → Stops a Was Left sure out (stop_of_run why)
   run_stops ends.WriteFault sound done = inl done
@@ -105,6 +108,7 @@ module _ (a : Asked) (Was Left : Telling → Type 0) (sure : Type 0) (out : Sent
   run_stops ends.Worn sound done = absurd (sound refl)
   run_stops ends.NoMemory sound done = inl done
 
+  -- if the keeper refused to begin a run, and not for a key that differs, the work stops for that
   pub run_refused : (why : KeepError) → ((id : ℕ) → why ≢ keep.KeyDiffers id)
       → OfScript a Was sure (λ s. KeeperRefused Left why open_run_on out) → Writes out [] → Stops a Was Left sure out (stop_of_keeping why)
   run_refused keep.Fault other done nothing = inr (inl done)
@@ -112,6 +116,7 @@ module _ (a : Asked) (Was Left : Telling → Type 0) (sure : Type 0) (out : Sent
   run_refused keep.UsedUp other done nothing = inr done
   run_refused keep.NoMemory other done nothing = inr nothing
 
+  -- if the keeper failed or had no memory when it was to list games, the work stops for that
   pub games_refused : (why : KeepError) → IsFailure why
       → OfGames a Was sure (λ name. KeeperRefused Left why (of_member_on name) out) → Writes out []
       → Stops a Was Left sure out (stop_of_keeping why)
@@ -128,6 +133,7 @@ module _ (a : Asked) (Was Left : Telling → Type 0) (sure : Type 0) (out : Sent
       no (inr e) = cc
   games_refused keep.NoMemory failure done nothing = inr nothing
 
+  -- if games were listed and the output failed in their text, the work stops for that fault
   pub listed_fails : (why : Stop) → why ≡ stop.WriteFault → OfGames a Was sure (ListedGames Left (FailsIn out))
       → Stops a Was Left sure out why
   listed_fails why is done = subst (Stops a Was Left sure out) (sym is) (inr (inr (inl done)))

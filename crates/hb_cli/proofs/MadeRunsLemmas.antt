@@ -35,6 +35,7 @@ range-more k =
 
 -- with one table more
 
+-- with one table more a made script has the lines it had before, and then those of that table
 pub lines-more : (k seed : ℕ) → made_lines (k + 1) seed ≡ made_lines k seed ++ table_lines seed (k + 1)
 lines-more k seed =
     let tables : List ℕ → List ScriptLine = flat_map (table_lines seed) in
@@ -44,10 +45,12 @@ lines-more k seed =
     ∙ ap (λ (l : List ScriptLine). tables (range_with_len 1 k) ++ l) (append-nil (table_lines seed (k + 1))))
     ∙ sym (append_assoc hello_lines (tables (range_with_len 1 k)) (table_lines seed (k + 1))))
 
+-- with one table more a made script has as many acts more as the game of that table has
 pub acts-more : (k seed : ℕ) → made_acts (k + 1) seed ≡ made_acts k seed + length (made_game seed (k + 1)).past
 acts-more k seed =
     sum_by-map-range_with_len_more (λ x. x) (λ table. length (made_game seed table).past) 1 k (k + 1) (omega arith)
 
+-- with one table more the score of a made script is greater by that of the game of that table
 pub score-more : (k seed : ℕ) → made_score (k + 1) seed ≡ made_score k seed + score (made_game seed (k + 1))
 score-more k seed =
     sum_by-map-range_with_len_more (λ x. x) (λ table. score (made_game seed table)) 1 k (k + 1) (omega arith)

@@ -150,17 +150,22 @@ is_output stop.UsedUp = inr (λ e. cc)
 
 -- statuses that are none of two others
 
+-- a status that says why the work was not done is not that of an output that failed
 pub refused_no_fault : (s : Status) → IsRefused s → s ≢ status.WriteFault
 refused_no_fault s refused = λ e. subst IsRefused e refused
 
+-- a status before which no work begins is not that of an output that failed
 pub silent_no_fault : (s : Status) → IsSilent s → s ≢ status.WriteFault
 silent_no_fault s silent = λ e. subst IsSilent e silent
 
+-- a status before which no work begins is not that of memory that ran out
 pub silent_no_memory : (s : Status) → IsSilent s → s ≢ status.NoMemory
 silent_no_memory s silent = λ e. subst IsSilent e silent
 
+-- a status before which the input was read to its end is not that of an output that failed
 pub read_no_fault : (s : Status) → HasRead s → s ≢ status.WriteFault
 read_no_fault s read = λ e. subst HasRead e read
 
+-- a status before which the input was read to its end is not that of memory that ran out
 pub read_no_memory : (s : Status) → HasRead s → s ≢ status.NoMemory
 read_no_memory s read = λ e. subst HasRead e read

@@ -31,12 +31,15 @@ told_any (Some bytes) = tt
 
 -- what words ask for, whatever the input is
 
+-- words that are a command over a replay ask for a command that reads
 pub asks_to_read_replay : (a : Asked) (command : ReplayCommand) → IsCommand a.words (Replay command) → AsksToRead a (λ bytes. ⊤)
 asks_to_read_replay a command is = inl (command, is, told_any a.told)
 
+-- words that are the command to run a script ask for a script
 pub asks_script : (a : Asked) (store : List ℕ) → IsCommand a.words (RunsScript store) → AsksScript a (λ bytes. ⊤)
 asks_script a store is = (store, is, told_any a.told)
 
+-- words that are the command for the games of a member ask for kept games, whatever the name is
 pub asks_games : (a : Asked) (store name : List ℕ) → IsCommand a.words (Games store name) → AsksGames a (λ name. ⊤)
 asks_games a store name is = (store, name, is, tt)
 
@@ -70,6 +73,7 @@ made_other a out why other (inl plain) memory output is = memory (sym is ∙ pla
 made_other a out why other (inr fails) memory output is = output (sym is ∙ fails.0)
 
 module _ (a : Asked) (Was Left : Telling → Type 0) (sure : Type 0) (out : Sent) where
+  -- a cause for which a made script is not summed up is one for which the work stops
   pub made_stops : (why : Stop) → MadeStops a out why → Stops a Was Left sure out why
   made_stops why (inl plain) = subst (Stops a Was Left sure out) (sym plain.0) (inr plain.1)
   made_stops why (inr fails) = subst (Stops a Was Left sure out) (sym fails.0) (inr (inr (inr fails.1)))
@@ -119,12 +123,14 @@ is_script_asked a store bytes s is told short read = (store, is, pick a.told tol
 module _ (a : Asked) (out : Sent) where
   -- why a replay is not written is no fault of a keeper, and one of the output only if that failed
 
+  -- the cause for which the text of a replay is not written is no fault of the keeper
   pub replay_keeper : (why : Stop)
       → (IsStop a why × Writes out []) ⊎ ((why ≡ stop.WriteFault) × ((text : List ℕ) × IsText a text × FailsIn out text))
       → why ≡ stop.KeeperFault → ⊥
   replay_keeper why (inl plain) e = subst (IsStop a) e plain.0
   replay_keeper why (inr fails) e = let other : stop.WriteFault ≡ stop.KeeperFault = sym fails.0 ∙ e in cc
 
+  -- if a fault of the output is why a replay is not written, the count of its failed calls rose
   pub replay_output : (why : Stop)
       → (IsStop a why × Writes out []) ⊎ ((why ≡ stop.WriteFault) × ((text : List ℕ) × IsText a text × FailsIn out text))
       → why ≡ stop.WriteFault → Rose out.faults_before out.faults

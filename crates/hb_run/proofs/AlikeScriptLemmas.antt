@@ -135,6 +135,7 @@ lines-sent h count s conn (l ∷ lines) whole =
     (stage-whole h count s lines whole) older.session older.text in
     record { session = last.session; text = last.text }
 
+-- a connection that has the same turns in two scripts is sent the same bytes in both
 pub alike-scripts : AlikeScripts
 alike-scripts conn h k m n a b lines others same =
     let first = lines-sent h m (first_stage a) conn lines (λ room. tt) in

@@ -41,6 +41,7 @@ ran-at Stands Tells h count alone moment s report run all holds =
       inside = record { desks = desks-on h s t run.desks.items on refl holds.desks; faulted = holds.faulted; bytes = holds.bytes };
     }
 
+-- if the clerk went through all rooms and its report was written, its line was run
 pub tended : (Stands : Fronts → Type 0) (Tells : Telling → Type 0) (h : House) (count : ℕ) (alone : Bool) (moment : ℕ) (s : RunState)
     (report : Report) (run : ScriptRun) (b a : Option (List ℕ)) → Holds h run s
     → AllRounds Stands Tells alone h count moment s.fronts s.keeper report → Appends b a (report_line report)
@@ -53,6 +54,7 @@ tended Stands Tells h count alone moment s report run b a holds all wrote = reco
   written = wrote;
 }
 
+-- if the clerk went through all rooms and writing stopped within its report, the run stops at its line
 pub tended-cut : (Stands : Fronts → Type 0) (Tells : Telling → Type 0) (h : House) (count : ℕ) (alone : Bool) (moment : ℕ)
     (s : RunState) (report : Report) (run : ScriptRun) (b a : Option (List ℕ)) (why : RunEnd) → Holds h run s
     → AllRounds Stands Tells alone h count moment s.fronts s.keeper report → IsWriteEnd why × AppendsFront b a (report_line report)
@@ -116,6 +118,7 @@ faulted Stands Tells h count alone moment s report run next b a holds same bytes
   written = wrote;
 }
 
+-- if writing stopped within the text for a fault of the keeper, the run stops at the line of the clerk
 pub faulted-cut : (Stands : Fronts → Type 0) (Tells : Telling → Type 0) (h : House) (count : ℕ) (alone : Bool) (moment : ℕ)
     (s : RunState) (report : Report) (run next : ScriptRun) (b a : Option (List ℕ)) (why : RunEnd) → Holds h run s
     → next.desks.items ≡ run.desks.items → next.bytes ≡ run.bytes → next.failed ≡ true

@@ -31,6 +31,7 @@ pub desk-on : (h : House) (s t : RunState) (conn : ℕ) (d : Desk) → AllGoOn s
 desk-on h s t conn d on same is =
     record { session = is.session ∙ sym same; fits = desk_fits-on h s.fronts t.fronts d on is.fits }
 
+-- all sessions that are held stay held while lists go on and the sessions of the state are the same
 pub desks-on : (h : House) (s t : RunState) (desks : List Desk) → AllGoOn s.fronts t.fronts → t.sessions ≡ s.sessions
     → AreDesks h s desks → AreDesks h t desks
 desks-on h s t desks on same each conn d is =
@@ -53,6 +54,7 @@ desks-set h s t desks conn old new on rest each was now k d is = by (nat_eq k co
 
 -- a turn of one connection
 
+-- behind a turn of a connection its new session is held in its place, and the others as before
 pub desks-turned : (h : House) (s : RunState) (f : Fronts) (x : Session) (bytes : ℕ) (desks : List Desk) (conn : ℕ) (old new : Desk)
     → AllGoOn s.fronts f → AreDesks h s desks → slice_get desks conn ≡ Some old → desk_session new ≡ x → DeskFits h f new
     → AreDesks h (record s { fronts = f; sessions = (conn, x) ∷ s.sessions; bytes = bytes }) (set desks conn new)
@@ -76,9 +78,11 @@ pub record IsNewDesk (d : Desk) : Type 0 where
   pub session : desk_session d ≡ new_session
   pub fits : (h : House) (f : Fronts) → DeskFits h f d
 
+-- each of these sessions is new, with no name bound
 abbrev pub AreNewDesks : List Desk → Type 0
 AreNewDesks desks = (k : ℕ) (d : Desk) → slice_get desks k ≡ Some d → IsNewDesk d
 
+-- new sessions and one new session behind them are all new
 pub new-more : (desks : List Desk) (d : Desk) → AreNewDesks desks → IsNewDesk d → AreNewDesks (desks ++ d ∷ [])
 new-more desks d each new k x is = by (slice_get-append_one desks d x k is)
   where
@@ -86,5 +90,6 @@ new-more desks d each new k x is = by (slice_get-append_one desks d x k is)
     by (inl old) = each k x old
     by (inr last) = subst IsNewDesk last.1 new
 
+-- new sessions are those that a run holds before its first line, whatever lists and keeper are
 pub desks-new : (h : House) (f : Fronts) (c : Telling) (desks : List Desk) → AreNewDesks desks → AreDesks h (first_state f c) desks
 desks-new h f c desks each conn d is = let new = each conn d is in record { session = new.session; fits = new.fits h f }

@@ -52,6 +52,7 @@ room_calls-on : (is : Bool) (alone : Bool) (room : ℕ) (event : RoomEvent) (f g
 room_calls-on true alone room event f g takes = all-on room f g takes.rest (record { more = event ∷ takes.others; is = takes.front })
 room_calls-on false alone room event f g waits = all-on room f g waits.rest (record { more = waits.others; is = waits.front })
 
+-- the lists of all rooms and of the lobby go on through the call of any errand
 pub calls-on : (alone : Bool) (count : ℕ) (task : Errand) (f g : Fronts) → TurnCalls alone count task f g → AllGoOn f g
 calls-on alone count errand.Nothing f g is = all_on-same f g is
 calls-on alone count (errand.Bad why) f g is = all_on-same f g is
@@ -77,6 +78,7 @@ round-on alone h moment room p q at =
     settles-on alone s moment asks.todo asked (g.rooms room) p.keeper q.keeper p.report q.report round.settles in
     all-on room f g at.others (goes_on-trans (asks-on alone s moment (f.rooms room) asks) settled)
 
+-- the lists of all rooms and of the lobby go on through any number of rounds
 pub rounds-on : (alone : Bool) (h : House) (moment : ℕ) (p : Place) (n : ℕ) (q : Place) → Rounds alone h moment p n q
     → AllGoOn p.fronts q.fronts
 rounds-on alone h moment p zero q same =
@@ -102,6 +104,7 @@ stopped-on alone h moment room why p q others (inr refused) =
     settle_stops-on alone s moment asks.todo why asked (g.rooms room) p.keeper q.keeper p.report q.report refused.stops in
     all-on room f g others (goes_on-trans (asks-on alone s moment (f.rooms room) asks) settled)
 
+-- the lists of all rooms and of the lobby go on if the clerk stops at a room, whatever the cause
 pub halts-on : (h : House) (count : ℕ) (alone : Bool) (moment : ℕ) (why : ClerkError) (s t : RunState)
     → ClerkHalts h count alone moment why s t → AllGoOn s.fronts t.fronts
 halts-on h count alone moment why s t halts =
@@ -183,6 +186,7 @@ line-sure sure h count alone (line.Clerk moment) s t text (inr fault) at =
     halts-sure sure h count alone moment clerk.KeeperFault s t fault.halts at
 line-sure sure h count alone (line.Says moment conn got) s t text turn at = subst (IsSure sure) (sym turn.keeper) at
 
+-- if a content that the keeper tells can be relied on before lines, so can the one that it tells behind
 pub runs-sure : (sure : Type 0) (h : House) (count : ℕ) (alone : Bool) (lines : List ScriptLine) (s t : RunState) (text : List ℕ)
     → Runs h count alone lines s t text → IsSure sure s.keeper → IsSure sure t.keeper
 runs-sure sure h count alone [] s t text ran at = subst (λ (k : RunState). IsSure sure k.keeper) (sym ran.0) at

@@ -245,6 +245,7 @@ asked-here h room moment start others todo old none is answer =
     ∙ (ap (λ (l : List RoomEvent). AsksTodo moment ∷ l) is ∙ sym (with_event-here room (AsksTodo moment) start.fronts)) in
     ap todo_in (ap (answer_to (site_of h room)) (sym events) ∙ answer)
 
+-- the lone clerk comes as far in its visit of a room as the round that a clerk ended, and is not refused
 pub round-here : (planned : Bool) (h : House) (room moment : ℕ) (start : LoneRound) (old new : List RoomEvent) (c d : Telling)
     (t u : Report)
     → start.refused ≡ None → IsAtRoom planned room start start old c t → Round true (site_of h room) moment old new c d t u
@@ -341,6 +342,7 @@ settle-stops planned h room moment todo why start r old new c d t u known free a
     get-stops planned h room moment todo.load why start (saves h room moment todo.save r) load.middle new load.between d load.report u known
     (saves-here planned h room moment todo.save start r old load.middle c load.between t load.report free at load.saves) load.stops
 
+-- if a refusal of the keeper stops a round, the lone clerk comes as far in its visit, refused the same
 pub round-stops : (planned : Bool) (h : House) (room moment : ℕ) (why : KeepError) (start : LoneRound) (old new : List RoomEvent)
     (c d : Telling)
     (t u : Report) → IsKnown planned why → start.refused ≡ None → IsAtRoom planned room start start old c t

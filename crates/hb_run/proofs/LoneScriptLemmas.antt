@@ -461,6 +461,7 @@ split-at lines done l is =
     append_assoc (take done lines) (l ∷ []) (drop (suc done) lines)
     ∙ (ap (λ (x : List ScriptLine). take done lines ++ x) (sym here) ∙ take-append-drop done lines)
 
+-- a refusal that stops a run stops the script too, and the text of the lines before is all that it writes
 pub lone-ends : LoneEnds
 lone-ends planned h count lines done stage s t rest text why stands free knows ran stops ends =
     let first : IsScript planned h count stage (take done lines) text t None =
@@ -493,6 +494,7 @@ front-more b a text more front =
       written = subst (Appends b a) (sym (take-append-le front.bytes text more low)) front.written;
     }
 
+-- if a front of the text of the first lines was written, it is a front of the text of all lines
 pub lone-fronts : LoneFronts
 lone-fronts h count lines done stage b a front =
     let first : List ScriptLine = take done lines in

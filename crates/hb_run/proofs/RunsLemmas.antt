@@ -134,6 +134,7 @@ pub left-all : (Left Next : RunState → Type 0) (h : House) (count : ℕ) (alon
 left-all Left Next h count alone lines begin b a go p =
     record { state = p.state; text = p.text; runs = p.runs; left = go p.state p.left; written = p.written }
 
+-- the same first lines and the same stop, if something else holds of the state that is left
 pub left-some : (Left Next : RunState → Type 0) (h : House) (count : ℕ) (alone : Bool) (lines : List ScriptLine) (begin : RunState)
     (b a : Option (List ℕ)) (why : RunEnd) → ((s : RunState) → Left s → Next s) → RunsSome Left h count alone lines begin b a why
     → RunsSome Next h count alone lines begin b a why

@@ -147,6 +147,7 @@ telling Stands Tells h run s t same told at = record {
   inside = at.inside;
 }
 
+-- behind the line of a turn that was run, the keeper tells what it told before
 pub said-telling : (Stands : Fronts → Type 0) (Tells : Telling → Type 0) (h : House) (count : ℕ) (alone : Bool)
     (moment conn : ℕ) (got : Got) (run : ScriptRun) (s : RunState) (b a : Option (List ℕ)) → Tells s.keeper
     → RunsLine (IsAt Stands AnyTelling h run) h count alone (line.Says moment conn got) s b a
@@ -174,6 +175,7 @@ halted-keeper h count alone Worn moment conn got s t (inr ends) = absurd (no-cle
 halted-keeper h count alone NoMemory moment conn got s t (inl ends) = ap (λ (k : RunState). k.keeper) ends.rest
 halted-keeper h count alone NoMemory moment conn got s t (inr ends) = absurd (no-clerk moment conn got ends.moment ends.is)
 
+-- behind the line of a turn that stopped, the keeper tells what it told before
 pub stopped-telling : (Stands : Fronts → Type 0) (Tells : Telling → Type 0) (h : House) (count : ℕ) (alone : Bool)
     (moment conn : ℕ) (got : Got) (run : ScriptRun) (s : RunState) (b a : Option (List ℕ)) (why : RunEnd) → Tells s.keeper
     → StopsLine (IsAt Stands AnyTelling h run) h count alone (line.Says moment conn got) s b a why
@@ -200,6 +202,7 @@ any Stands Tells h run s at =
 
 -- from each state
 
+-- if the turn did not stop, its line is run from each state, and the keeper tells what it told before
 pub all-said : {A : Type 0} (r : Result A RunEnd) (Was Stands : Fronts → Type 0) (Tells : Telling → Type 0) (sure : Type 0) (h : House)
     (count : ℕ) (alone : Bool) (moment conn : ℕ) (got : Got) (run next : ScriptRun) (b a : Option (List ℕ))
     → OnOk r ((s : RunState) → IsAt Was AnyTelling h run s
@@ -210,6 +213,7 @@ all-said (Ok x) Was Stands Tells sure h count alone moment conn got run next b a
     said-telling Stands Tells h count alone moment conn got next s b a at.outside.told (ran s (any Was Tells h run s at))
 all-said (Err e) Was Stands Tells sure h count alone moment conn got run next b a ran = tt
 
+-- if the turn stopped, its line stops from each state, and the keeper tells what it told before
 pub all-stopped : {A : Type 0} (r : Result A RunEnd) (Was Stands : Fronts → Type 0) (Tells : Telling → Type 0) (sure : Type 0)
     (h : House) (count : ℕ) (alone : Bool) (moment conn : ℕ) (got : Got) (run next : ScriptRun) (b a : Option (List ℕ))
     → IfErr r (λ why. (s : RunState) → IsAt Was AnyTelling h run s
