@@ -30,6 +30,7 @@ abbrev pub table_noted : Site → List Happening → ℕ → Notice → Table
 table_noted s past moment notice =
     with_items (timeout (table_of s past) (table_of s past).game (event_moment (Notes moment notice))) (table_of s past)
 
+-- the stamp of what a note adds
 abbrev pub note_stamp : Site → List Happening → ℕ → Notice → ℕ
 note_stamp s past moment notice = stamp_at (table_noted s past moment notice) past (in_time moment)
 

@@ -65,6 +65,7 @@ quiet-none true false a h = refl
 pub accepted_load-quiet : (before : List OwnEntry) (o : OwnEntry) → is_quiet o.reply o.entry.command ≡ true → accepted_load before o ≡ None
 accepted_load-quiet before o h = quiet-none (is_done o.reply) (is_none (kept_entry before o.entry.number)) (asked_id o.entry.command) h
 
+-- none of a member's entries asks for a load that was accepted
 abbrev pub are_quiet : List OwnEntry → Bool
 are_quiet own = list_all (λ (o : OwnEntry). is_quiet o.reply o.entry.command) own
 
@@ -80,6 +81,7 @@ pending_id-quiet (o ∷ own) items h =
 abbrev pub is_within : ℕ → OwnEntry → Bool
 is_within n o = is_quiet o.reply o.entry.command || nat_le o.count n
 
+-- each accepted load of a member's entries came when there were at most so many items
 abbrev pub are_within : ℕ → List OwnEntry → Bool
 are_within n own = list_all (is_within n) own
 

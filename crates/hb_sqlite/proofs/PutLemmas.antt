@@ -109,6 +109,7 @@ module _ (old new : State) where
   within_open sql params (Ok count) h = execute_open old new sql params (Ok count) h.0
   within_open sql params (Err e) h = kept_open old new (kept_within sql params e h)
 
+  -- an open database that was left as it was, or rolled back, still backs the content
   pub kept_backed : (content : Content) → IsKept old new → IsTrue new.is_open → Backed old content → Backed new content
   kept_backed content (inl same) open' b = record { holds = rw same.0.committed_is b.holds; few = b.few }
   kept_backed content (inr back) open' b = record { holds = rw (back.undone open').1 b.holds; few = b.few }
@@ -280,15 +281,19 @@ module _ (start mid end : State) (key : Key) (row : GameRow) (last : doubt mid.i
   abbrev begun : State
   begun = record start { in_transaction = true }
 
+  -- the id of the game that is put: the next one, and no number past the greatest
   abbrev pub Ids : Content → ℕ → Type 0
   Ids content id = (id ≡ length content.rows + 1) × (id < 2 ^ 63)
 
+  -- the answer of a put that was done
   abbrev pub done_with : {E : Type 0} → ℕ → Result ℕ E
   done_with id = Ok id
 
+  -- the answer of a put that failed
   abbrev pub failed_with : {F : Type 0} → F → Result ℕ F
   failed_with f = Err f
 
+  -- the inserts within the transaction place the game and its seats behind those that are there
   abbrev pub Inserts : {E : Type 0} → Result ℕ E → Type 0
   Inserts r = DoesWithin begun mid (λ content. Placing begun content.last_run content.rows (seat_rows 1 content.rows))
       (λ content id. (id ≡ length content.rows + 1) × (id < 2 ^ 63) × Placing mid content.last_run (content.rows
@@ -303,6 +308,7 @@ module _ (start mid end : State) (key : Key) (row : GameRow) (last : doubt mid.i
   backs_begun : (content : Content) → Backed start content → Backed begun content
   backs_begun content b = record { holds = b.holds; few = b.few }
 
+  -- a put whose inserts were committed has added the game under its id
   pub wrote : {E : Type 0} (id : ℕ) → Inserts (done_with {E = E} id) → (HasCleanDisk end → Shows mid end mid.now mid.now false)
       → Does start end Ids (with_row key row) (done_with {E = E} id)
   wrote id inserts ends = record {
@@ -319,6 +325,7 @@ module _ (start mid end : State) (key : Key) (row : GameRow) (last : doubt mid.i
     failed = λ sure content tells. tt;
   }
 
+  -- a put that was rolled back answers its failure, and the content is as before
   pub gave_up : {E F : Type 0} (r : Result ℕ E) (f : F) → Inserts r → (HasCleanDisk end → IsRolledBack mid end)
       → Does start end Ids (with_row key row) (failed_with {F = F} f)
   gave_up r f inserts ends = record {
@@ -346,6 +353,7 @@ module _ (start mid end : State) (key : Key) (row : GameRow) (last : doubt mid.i
   commit_open e (inl fails) open' = fails.3.was_open open'
   commit_open e (inr over) open' = over.2.0.was_open
 
+  -- a put whose commit was refused answers its failure, and the content is as before
   pub refused_commit : {E F : Type 0} (id : ℕ) (f : F) (e : Error) → Inserts (done_with {E = E} id) → (HasCleanDisk end
       → FailsToCommit mid end e) → Does start end Ids (with_row key row) (failed_with {F = F} f)
   refused_commit id f e inserts ends = record {

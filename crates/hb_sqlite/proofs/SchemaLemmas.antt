@@ -226,23 +226,27 @@ not41 : (◌≡◌ {A = ℕ} 4 1) → ⊥
 not41 e = cc
 
 module _ (old new : State) (count : ℕ) where
+  -- the table of the version is made in an empty schema
   pub stage_version : Stage old no_schema [] → ExecutesInside 0 create_version [] old new (Ok count) → Stage new with_version ((0, []) ∷ [])
   stage_version st h =
       let m = creates old new no_schema create_version version_table count st.has makes_version h.0 in
       record { inside = h.1.mode; has = m.schema; rows = (m.empty, tt) }
 
+  -- the table of runs is made behind it
   pub stage_runs : Stage old with_version ((0, []) ∷ []) → ExecutesInside 0 create_runs [] old new (Ok count)
       → Stage new with_runs ((0, []) ∷ (1, []) ∷ [])
   stage_runs st h =
       let m = creates old new with_version create_runs (record runs_table { tree = 0 }) count st.has makes_runs h.0 in
       record { inside = h.1.mode; has = m.schema; rows = (m.others.0 ∙ st.rows.0, (m.empty, tt)) }
 
+  -- the table of games is made behind that
   pub stage_games : Stage old with_runs ((0, []) ∷ (1, []) ∷ []) → ExecutesInside 0 create_games [] old new (Ok count)
       → Stage new with_games ((0, []) ∷ (1, []) ∷ (2, []) ∷ [])
   stage_games st h =
       let m = creates old new with_runs create_games (record games_table { tree = 0 }) count st.has makes_games h.0 in
       record { inside = h.1.mode; has = m.schema; rows = (m.others.0 ∙ st.rows.0, (m.others.1.0 ∙ st.rows.1.0, (m.empty, tt))) }
 
+  -- with the table of seats the schema is that of a store
   pub stage_seats : Stage old with_games ((0, []) ∷ (1, []) ∷ (2, []) ∷ []) → ExecutesInside 0 create_seats [] old new (Ok count)
       → Stage new store_schema ((0, []) ∷ (1, []) ∷ (2, []) ∷ (4, []) ∷ [])
   stage_seats st h =
@@ -257,6 +261,7 @@ module _ (old new : State) (count : ℕ) where
         );
       }
 
+  -- the number of the version is written as the only row of its table
   pub stage_first_version : Stage old store_schema ((0, []) ∷ (1, []) ∷ (2, []) ∷ (4, []) ∷ [])
       → ExecutesInside 0 first_version [] old new (Ok count)
       → Stage new store_schema ((0, version_row ∷ []) ∷ (1, []) ∷ (2, []) ∷ (4, []) ∷ [])
@@ -277,6 +282,7 @@ module _ (old new : State) (count : ℕ) where
         );
       }
 
+  -- the number of the last run is written as 0, and the store is new
   pub stage_first_run : Stage old store_schema ((0, version_row ∷ []) ∷ (1, []) ∷ (2, []) ∷ (4, []) ∷ [])
       → ExecutesInside 0 first_run [] old new (Ok count)
       → Stage new store_schema ((0, version_row ∷ []) ∷ (1, run_row 0 ∷ []) ∷ (2, []) ∷ (4, []) ∷ [])

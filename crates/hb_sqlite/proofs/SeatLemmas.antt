@@ -56,6 +56,7 @@ module _ (game seat : ℕ) where
       (s + 1) names ++ more)) false (same_number game game ∙ is) (same_number s seat ∙ other)
       ∙ skip_low (n + 1) (s + 1) names more (omega arith) ∙ ap (λ k. matching of_seat params (numbered_from k more)) (omega arith)
 
+  -- no row of a later game's seats is of this game
   pub none_later : (n from : ℕ) (rows : List (Key × GameRow)) → game < from
       → matching of_seat params (numbered_from n (seat_rows from rows)) ≡ []
   none_later n from [] low = refl
@@ -88,6 +89,7 @@ module _ (game seat : ℕ) where
   name_at None = None
   name_at (Some kept) = slice_get kept.1.names seat
 
+  -- the row of a seat of a game has the name that the content has there, if there is one
   pub finds_seat : (n from : ℕ) (rows : List (Key × GameRow)) → from ≤ game
       → Finds params (name_at (slice_get rows (game - from))) game seat (matching of_seat params (numbered_from n (seat_rows from rows)))
   finds_seat n from [] low = refl

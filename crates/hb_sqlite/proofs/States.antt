@@ -22,10 +22,12 @@ module _ (old new : State) where
   abbrev pub IsKept : Type 0
   IsKept = IsUnchanged old new ⊎ IsRolledBack old new
 
+  -- a database that is open behind a call that left it as it was, or rolled it back, was open before
   pub kept_open : IsKept → WasOpen
   kept_open (inl same) open' = same.0.was_open
   kept_open (inr back) open' = back.was_open open'
 
+  -- and it tells the content that it told
   pub kept_tells : (content : Content) → IsKept → IsTrue new.is_open → Tells old content → Tells new content
   kept_tells content (inl same) open' f =
       record {
@@ -69,6 +71,7 @@ module _ (old new : State) where
   not_shown sql c params e None h = inl h.3
   not_shown sql c params e (Some what) h = refused sql c params e h
 
+  -- a query that failed leaves the database as it was, or rolled back
   pub query_failed : (sql : List ℕ) (params : Row) (e : Error) → FailsToQuery sql params old new e → IsKept
   unfolding FailsToQuery
   query_failed sql params e (inl h) = not_run sql params e h
@@ -79,10 +82,12 @@ module _ (old new : State) where
   shown_open sql c params rows None h open' = h.3.0.was_open
   shown_open sql c params rows (Some what) h open' = h.1.shown.was_open
 
+  -- a database that is open behind a query that gave rows was open before
   pub rows_open : (sql : List ℕ) (params : Row) (rows : List Row) → Shown sql params old new rows → WasOpen
   unfolding Shown
   rows_open sql params rows h = shown_open sql h.0 _ rows h.0.returning h.2
 
+  -- a database that is open behind a query for one row was open before
   pub query_open : (sql : List ℕ) (params : Row) (r : Result Row Error) → QueriesRow sql params old new r → WasOpen
   unfolding QueriesRow
   query_open sql params (Ok row) (inl h) = λ open'. h.1.0.was_open
@@ -94,6 +99,7 @@ module _ (old new : State) where
   released at (inl h) = h.1.0.was_open
   released at (inr h) = h.1.0.was_open
 
+  -- a database that is open behind a statement that was run was open before
   pub runs_open : (returning : Option Returning) (command : Command) (text : List ℕ) (params : Row) (count : ℕ)
       → Runs old new returning command text params count → WasOpen
   runs_open returning (Select q names) text params count h open' = absurd h
@@ -128,11 +134,13 @@ module _ (old new : State) where
     | inr runs ↦ runs_open c.returning c.command _ params count (rw runs at h)
   ]
 
+  -- a statement that failed leaves the database as it was, or rolled back
   pub execute_failed : (sql : List ℕ) (params : Row) (e : Error) → Executes sql params old new (Err e) → IsKept
   unfolding ExecutesIn
   execute_failed sql params e (inl h) = not_run sql params e h
   execute_failed sql params e (inr h) = alone_failed sql h.0 _ e h.2
 
+  -- a database that is open behind a statement was open before
   pub execute_open : (sql : List ℕ) (params : Row) (r : Result ℕ Error) → Executes sql params old new r → WasOpen
   unfolding ExecutesIn
   execute_open sql params (Ok count) h = alone_open sql h.0 _ count h.2
@@ -143,11 +151,13 @@ module _ (old new : State) where
   unchanged_shown sql c params rows None none h = h.3
   unchanged_shown sql c params rows (Some what) none h = absurd cc
 
+  -- a plain query leaves the database as it was
   pub rows_unchanged : (sql : List ℕ) (params : Row) (rows : List Row) → IsPlain (understood old.now.schema sql)
       → Shown sql params old new rows → IsUnchanged old new
   unfolding Shown
   rows_unchanged sql params rows plain h = unchanged_shown sql h.0 _ rows h.0.returning (subst IsPlain h.1.is plain).0 h.2
 
+  -- a database in which a query found a row was open, if it is open now
   pub query_found : (sql : List ℕ) (params : Row) (row : Row) → QueriesRow sql params old new (Ok row) → IsTrue new.is_open
       → IsTrue old.is_open
   query_found sql params row h = query_open sql params (Ok row) h

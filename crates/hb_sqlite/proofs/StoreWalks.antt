@@ -122,6 +122,7 @@ module _ (a b d : State) (key : Key) (row : GameRow) (id : ℕ) where
   Seats r = (games : List (Key × GameRow)) (seats : List Row) → DoesWithin b d (λ content. Placing b content.last_run games seats)
       (λ content _. Placing d content.last_run games (seats ++ seats_from id 0 row.names)) r
 
+  -- a game whose row and whose seats were inserted is inserted whole
   pub seats_done : {E F G : Type 0} (it : Unit {0}) → Game {E = E} (Ok id) → Seats {F = F} (Ok it) → Whole {F = G} (Ok id)
   seats_done it game seats = record {
     sure = λ sure. game.sure ((seats [] []).sure sure);
@@ -135,6 +136,7 @@ module _ (a b d : State) (key : Key) (row : GameRow) (id : ℕ) where
         );
   }
 
+  -- if a seat failed to be inserted, the game as a whole did
   pub seats_failed : {E F G : Type 0} (e : F) (r : Result ℕ G) → IsErr r → Game {E = E} (Ok id) → Seats {F = F} (Err e) → Whole {F = G} r
   seats_failed e (Ok n) is game seats = absurd (let bad = is in cc)
   seats_failed e (Err f) is game seats = record {

@@ -124,6 +124,7 @@ still : (w : What) → is_plain w ≡ true → act_in w ≡ None
 still w plain act game same_game timer clock =
     record { plain = plain; act = act; game = game; same_game = same_game; timer = timer; clock = clock }
 
+-- an item that is tested as small changes neither game, timer nor acts
 pub small-is : (w : What) → is_small w ≡ true → IsSmall w
 small-is (what.Sat name) small = still (what.Sat name) refl refl (λ p. refl) (λ p. refl) (λ m p t. refl) (λ m p t. refl)
 small-is (what.Rose name) small = still (what.Rose name) refl refl (λ p. refl) (λ p. refl) (λ m p t. refl) (λ m p t. refl)
@@ -323,6 +324,7 @@ end-over seat how p = ended-called p.setup p.past seat how
 
 -- a pause, and its end
 
+-- a pause may be added while the game runs and its clock does
 pub pause-can : (x : State) (a : Room) (moment : ℕ) (name : List ℕ) → Keeps x a → ended_by a.game ≡ false → paused_by a.timer ≡ false
     → a.stamp ≤ moment → moment ≤ MOMENT_LIMIT → IsTimely moment a.timer
     → CanAdd moment (what.Paused name) a.review x a
@@ -349,6 +351,7 @@ pause-can x a moment name k runs running later range timely =
     stays None t is = absurd (none-some is)
     stays (Some u) t is = subst (λ (v : History). is_stopped v.calls ≡ ended_by a.game) (some-same is) (sym runs)
 
+-- the end of a pause may be added while the clock is paused
 pub resume-can : (x : State) (a : Room) (moment : ℕ) (name : List ℕ) → Keeps x a → paused_by a.timer ≡ true
     → a.stamp ≤ moment → moment ≤ MOMENT_LIMIT → CanAdd moment (what.Resumed name) a.review x a
 resume-can x a moment name k paused later range =
@@ -401,6 +404,7 @@ ended-timely moment a halts over t is end ends =
     let none : deadline t.timing t.calls ≡ None = rw still refl in
     absurd (none-some (sym none ∙ ends))
 
+-- the walk through the game that a review has once a seat's time has ended the game
 abbrev pub lapse_walk : ℕ → Room → Option Walk
 lapse_walk seat a = review_after (timed_out seat) (game_after (timed_out seat) a.game) a.review
 

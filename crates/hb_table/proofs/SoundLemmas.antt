@@ -26,6 +26,7 @@ pub record Sound (s : Site) (x : State) : Type 0 where
   pub idle : is_started x.table.items ≡ false → AreIdle x.table.items
   pub no_steps : NoStepsBefore x.table
 
+-- the state at the end of any list of events whose notes bring whole games is sound
 pub state_at-sound : (s : Site) (events : List RoomEvent) → BringWhole events → Sound s (state_at s events)
 state_at-sound s events whole = record {
   within = state_at-within s events;
@@ -35,6 +36,7 @@ state_at-sound s events whole = record {
   no_steps = state_at-no-steps s events;
 }
 
+-- and so is the state once time was applied before the next event
 pub timed_state-sound : (s : Site) (events : List RoomEvent) (e : RoomEvent) → BringWhole events
     → Sound s (timed_state s (past_of s events) e)
 timed_state-sound s events e whole = record {

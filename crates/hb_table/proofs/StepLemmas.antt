@@ -58,6 +58,7 @@ pub record Finds (s : Site) (events : List RoomEvent) (e : RoomEvent) (c : Room)
   pub keeps : Keeps (timed_state s (past_of s events) e) c
   pub sound : Sound s (timed_state s (past_of s events) e)
 
+-- a room that stood for the list finds the next event as the definition does, once it has applied time
 pub timed-finds : (a c : Room) (e : RoomEvent) (events : List RoomEvent) → Timed e a c → StandsFor a events → Finds (site_in a) events e c
 timed-finds a c e events time stands = record {
   keeps = time.keeps (site_in a) events stands.whole stands.keeps;
@@ -141,12 +142,15 @@ refused-steps a c b e reply look time some keeps = goes-answers a b (Call e) (Re
 
 -- the stamp of an accepted command
 
+-- a room's stamp for a command is that of the state for which it stands
 pub stamp-is : (x : State) (c : Room) (moment : ℕ) → Keeps x c → stamp_for c moment ≡ stamp_in x moment
 stamp-is x c moment k = ap (λ (n : ℕ). max (in_time moment) n) k.stamp
 
+-- it is no earlier than the room's stamp so far
 pub stamp-later : (c : Room) (moment : ℕ) → c.stamp ≤ stamp_for c moment
 stamp-later c moment = omega arith
 
+-- it is no moment past the last one that is kept
 pub stamp-range : (x : State) (c : Room) (moment : ℕ) → Keeps x c → stamp_for c moment ≤ MOMENT_LIMIT
 stamp-range x c moment k = omega (arith, k.in_range)
 
@@ -161,6 +165,7 @@ pub record Finding (s : Site) (events : List RoomEvent) (e : Entry) (c : Room) :
   pub range : stamp_for c e.moment ≤ MOMENT_LIMIT
   pub timely : IsTimely (stamp_for c e.moment) c.timer
 
+-- a room that takes an entry, which no row refuses, finds it as the definition does
 pub taken-finding : (a c : Room) (e : Entry) (events : List RoomEvent) → Timed (Call e) a c → IsTaken e c → StandsFor a events
     → Finding (site_in a) events e c
 taken-finding a c e events time is_taken stands =

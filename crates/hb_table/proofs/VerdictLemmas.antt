@@ -101,6 +101,7 @@ known-is x a e k = pick (e.table == x.table.latest) refl
     pick true here = rw (k.latest, here) (kept_reply-own e.member a.kept (x.own e.member) e.number e.command (k.kept e.member))
     pick false here = rw (k.latest, here) refl
 
+-- a room counts as many kept numbers of a member at the entry's table as the state does
 pub count-is : (x : State) (a : Room) (e : Entry) → Keeps x a → count_in a e ≡ kept_count (own_for x.table (x.own e.member) e)
 count-is x a e k = pick (e.table == x.table.latest) refl
   where
@@ -187,6 +188,7 @@ NoRowOf a e = NoRow (facts_in a e.member) (known_in a e) (count_in a e)
     (rule_by a.game (seat_in a.names e.member) (asked_action e.command)) (step_refusal (reviewed_by a.review) (steps_by a.review)
     e.command) e
 
+-- where a room has no refusal, no row of the table of refusals holds
 pub verdict-none : (a : Room) (e : Entry) → verdict_in a e ≡ None → NoRowOf a e
 verdict-none a e none = rows_on-none (facts_in a e.member) (known_in a e) (count_in a e)
     (rule_by a.game (seat_in a.names e.member) (asked_action e.command)) (step_refusal (reviewed_by a.review) (steps_by a.review)
@@ -258,6 +260,7 @@ fresh-refused a e reply fresh some =
     rows_on-refuse (facts_in a e.member) (count_in a e) (rule_by a.game (seat_in a.names e.member) (asked_action e.command))
     (step_refusal (reviewed_by a.review) (steps_by a.review) e.command) e reply (rw fresh at some)
 
+-- where a room has a refusal, the state refuses the entry with the same reply
 pub verdict-refuses : (x : State) (a : Room) (e : Entry) (reply : Reply) → Keeps x a → is_look e.command ≡ false
     → verdict_in a e ≡ Some reply → Refuses x e reply
 verdict-refuses x a e reply k look some =

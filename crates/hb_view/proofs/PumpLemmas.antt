@@ -147,6 +147,7 @@ alone-writes a moment (what.Loaded id) line c old new is texts v more before kno
 alone-writes a moment (what.Reviewed turn hypos action) line c old new is texts v more before known shows all so = absurd (some-none
     (sym is))
 
+-- an item that has one line, whatever the table is, writes that line and leaves the cursor
 pub line_alone-writes : (a : Answered) (item : Item) (line : WireLine) (c : Cursor) (old new : List (List ℕ))
     → line_alone item.what ≡ Some line
     → new ≡ old ++ line_text line ∷ [] → Writes a item c c old new
@@ -258,6 +259,7 @@ first_acts-append xs ys =
     drop-front [] ys = refl
     drop-front (x ∷ xs) ys = drop-front xs ys
 
+-- the cursor with another game
 abbrev pub with_game : Cursor → Option Position → Cursor
 with_game c game = record { viewer = c.viewer; game = game; clock = c.clock; shown = c.shown }
 

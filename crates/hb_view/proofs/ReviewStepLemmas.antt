@@ -78,6 +78,7 @@ facts-of game taken (command.Load id) step may is = absurd (some-none (sym is))
 facts-of game taken command.Close step may is = absurd (some-none (sym is))
 facts-of game taken command.Look step may is = absurd (some-none (sym is))
 
+-- what holds of a step that a review takes, by its command
 pub step-facts : (game : Position) (taken : List Step) (step : Step) → IsStep game taken step → StepFacts game taken step
 step-facts game taken step is = facts-of game taken is.command step is.may is.is
 

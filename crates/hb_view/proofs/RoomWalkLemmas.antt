@@ -402,6 +402,7 @@ pub record Stays (old new : List Happening) : Type 0 where
   pub opening : opening new ≡ opening old
   pub loaded : is_some (loaded_game old) ≡ true → loaded_game new ≡ loaded_game old
 
+-- a table's opening and its loaded game stay while no other table is opened
 pub past_of-stays : (s : Site) (more events : List RoomEvent)
     → opened_count (record_of (past_of s (more ++ events))) ≡ opened_count (record_of (past_of s events))
     → Stays (past_of s events) (past_of s (more ++ events))

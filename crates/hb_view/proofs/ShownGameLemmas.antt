@@ -162,6 +162,7 @@ IsOn : Bool → Type 0
 IsOn true = ⊤
 IsOn false = ⊥
 
+-- nothing is both true and false
 pub not-both : {b : Bool} → b ≡ true → b ≡ false → ⊥
 unfolding IsOn
 not-both on off = subst IsOn (sym on ∙ off) tt
@@ -171,6 +172,7 @@ IsThere : {A : Type 0} → Option A → Type 0
 IsThere None = ⊥
 IsThere (Some x) = ⊤
 
+-- what is there is not absent
 pub some-none : {A : Type 0} {x : A} → Some x ≡ None → ⊥
 unfolding IsThere
 some-none e = subst IsThere e tt

@@ -72,6 +72,7 @@ unstarted-none (i ∷ items) order off = none-more i.what i.moment items order.0
 opened-head : (w : View) → IsStream w → head_of w ≡ Some (record { name = w.name; options = w.options; game = game_head w.loaded w })
 opened-head w is = rw is.opened refl
 
+-- the head of an answer that shows a view is the view's: its name, its options and its game
 pub head-shown : (a : Answered) (w : View) (head : Head) → IsStream w → Shows w a.from a → a.head ≡ Some head
     → head ≡ record { name = w.name; options = w.options; game = game_head w.loaded w }
 head-shown a w head is shows e = ap (λ (o : Option Head). unwrap_or o head) (sym e ∙ (shows.head ∙ opened-head w is))

@@ -48,6 +48,7 @@ map-some : {A B : Type 0} (f : A → B) (o : Option A) → is_some (option_map f
 map-some f None = refl
 map-some f (Some x) = refl
 
+-- each view of a room can be written as a stream
 pub views-are-streams : ViewsAreStreams
 unfolding view_at
 views-are-streams s events member whole opened =
@@ -283,6 +284,7 @@ whole-rest : (more events : List RoomEvent) → BringWhole (more ++ events) → 
 whole-rest [] events whole = whole
 whole-rest (e ∷ more) events whole = whole-rest more events whole.1
 
+-- what a cursor keeps of a view it keeps while the room goes on
 pub cursors-go-on : CursorsGoOn
 unfolding view_at
 cursors-go-on s more events member c whole latest viewer written =

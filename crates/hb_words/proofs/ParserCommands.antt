@@ -122,6 +122,7 @@ has_form (w ∷ rest) =
     (cond (bytes_eq (codes "script") w) (one_value rest) (cond (bytes_eq (codes "games") w) (two_values rest)
     (cond (bytes_eq (codes "make") w) (two_values rest) false))))))
 
+-- no word begins with a dash
 abbrev pub AllPlain : List Text → Type 0
 AllPlain [] = ⊤
 AllPlain (w ∷ rest) = IsPlain w × AllPlain rest

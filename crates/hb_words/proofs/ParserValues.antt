@@ -17,9 +17,11 @@ use Rattle.hb_words.proofs.ParserWords.{at, walk_step, fault_step}
 abbrev pub leaf : App → Shape
 leaf a = built_leaf (inherited (built all_commands).top a.top)
 
+-- the faults that the parser finds in the words behind a command's word
 abbrev pub fault_at : Shape → List Text → Kinds
 fault_at s words = level_fault s [] nothing_held words false []
 
+-- the values that it finds there
 abbrev pub rows_at : Shape → List Text → List Row
 rows_at s words = rows_after s.rules [] words
 
@@ -34,6 +36,7 @@ level_at s faults end = or_else faults (or_else [] (or_else (settle_fault s.rule
 by_walk : (s : Shape) (words : List Text) → fault_at s words ≡ level_at s (walk_fault s [] (at nothing_held 1) words) (end_of s words).held
 by_walk s words = refl
 
+-- a fault is not none
 pub some_fault : (k : ErrorKind) (ks : Kinds) → k ∷ ks ≡ [] → ⊥
 some_fault k ks e = true≢false (ap is_some (ap (λ xs. slice_get xs 0) e))
 
@@ -42,16 +45,20 @@ refused_by : (s : Shape) (words : List Text) (k : ErrorKind)
 refused_by s words k is e = some_fault k [] (sym (ap (λ faults. level_at s faults (end_of s words).held) is) ∙ e)
 
 module _ (name : Text) where
+  -- a command of no value is taken without words
   pub none_taken : fault_at (leaf (bare name)) [] ≡ []
   unfolding clap_on_literals
   none_taken = refl
 
+  -- it has no first value
   pub none_first : first_of first_id (rows_at (leaf (bare name)) []) ≡ None
   none_first = refl
 
+  -- it has no second value
   pub none_second : first_of second_id (rows_at (leaf (bare name)) []) ≡ None
   none_second = refl
 
+  -- with a word it is refused
   pub none_refused : (a : Text) (rest : List Text) → IsPlain a → fault_at (leaf (bare name)) (a ∷ rest) ≡ [] → ⊥
   none_refused a rest plain = refused_by (leaf (bare name)) (a ∷ rest) UnknownArgument
       (fault_step [] a refl plain (leaf (bare name)) 1 nothing_held rest)
@@ -62,6 +69,7 @@ module _ (name : Text) where
   abbrev held_one : Text → Held
   held_one a = record { rows = []; pending = Some (first_id, a ∷ []); skip = 0 }
 
+  -- a command of one value is refused without words
   pub one_missing : fault_at one [] ≡ [] → ⊥
   unfolding clap_on_literals
   one_missing e = some_fault _ [] e
@@ -81,15 +89,19 @@ module _ (name : Text) where
     unfolding clap_on_literals
     one_end = refl
 
+    -- with one word it is taken
     pub one_taken : fault_at one (a ∷ []) ≡ []
     one_taken = ap₂ (λ faults (w : Walk). level_at one faults w.held) one_none one_walk ∙ one_end
 
+    -- the word is its first value
     pub one_first : first_of first_id (rows_at one (a ∷ [])) ≡ Some a
     one_first = ap (λ (w : Walk). first_of first_id (finished one.rules w.held)) one_walk
 
+    -- it has no second value
     pub one_second : first_of second_id (rows_at one (a ∷ [])) ≡ None
     one_second = ap (λ (w : Walk). first_of second_id (finished one.rules w.held)) one_walk
 
+    -- with more words than one it is refused
     pub one_more : (b : Text) (rest : List Text) → IsPlain b → fault_at one (a ∷ b ∷ rest) ≡ [] → ⊥
     one_more b rest plain' = refused_by one (a ∷ b ∷ rest) UnknownArgument
         (one_faults (b ∷ rest) ∙ fault_step [] b refl plain' one 2 (held_one a) rest)
@@ -97,6 +109,7 @@ module _ (name : Text) where
   abbrev two : Shape
   two = leaf (with_two name)
 
+  -- a command of two values is refused without words
   pub two_missing : fault_at two [] ≡ [] → ⊥
   unfolding clap_on_literals
   two_missing e = some_fault _ [] e
@@ -116,6 +129,7 @@ module _ (name : Text) where
     unfolding clap_on_literals
     two_short e = some_fault _ [] e
 
+    -- with one word it is refused
     pub two_lacking : fault_at two (a ∷ []) ≡ [] → ⊥
     two_lacking e = two_short (sym (ap₂ (λ faults (w : Walk). level_at two faults w.held) two_none two_walk) ∙ e)
 
@@ -137,15 +151,19 @@ module _ (name : Text) where
       unfolding clap_on_literals
       both_end = refl
 
+      -- with two words it is taken
       pub both_taken : fault_at two (a ∷ b ∷ []) ≡ []
       both_taken = ap₂ (λ faults (w : Walk). level_at two faults w.held) both_none both_walk ∙ both_end
 
+      -- the first word is its first value
       pub both_first : first_of first_id (rows_at two (a ∷ b ∷ [])) ≡ Some a
       both_first = ap (λ (w : Walk). first_of first_id (finished two.rules w.held)) both_walk
 
+      -- the second word is its second value
       pub both_second : first_of second_id (rows_at two (a ∷ b ∷ [])) ≡ Some b
       both_second = ap (λ (w : Walk). first_of second_id (finished two.rules w.held)) both_walk
 
+      -- with more words than two it is refused
       pub both_more : (d : Text) (rest : List Text) → IsPlain d → fault_at two (a ∷ b ∷ d ∷ rest) ≡ [] → ⊥
       both_more d rest plain'' = refused_by two (a ∷ b ∷ d ∷ rest) UnknownArgument
           (both_faults (d ∷ rest) ∙ fault_step [] d refl plain'' two 3 held_two rest)

@@ -50,6 +50,7 @@ module _ (names : Names) (w : Text) (none : subcommand_met names idle w ≡ None
   unfolding walked
   walk_step c p h = ap (λ met. after_step c w (at h p) met.0 met.1) (plain_met c p h)
 
+  -- a plain word is a value of the next place, or a fault there, and the walk goes on behind it
   pub fault_step : (s : Shape) (p : ℕ) (h : Held) (rest : List Text)
       → walk_fault s names (at h p) (w ∷ rest) ≡ or_else (step_fault s p h value)
       (walk_fault s names (to_positional s.rules (arg_by_index s.rules p) w (at h p) h) rest)

@@ -22,6 +22,7 @@ at_most_two (a ∷ []) e = refl
 at_most_two (a ∷ b ∷ []) e = refl
 at_most_two (a ∷ b ∷ c ∷ rest) e = absurd (true≢false (ap is_some e))
 
+-- plain words that the parser takes have the parts that it finds
 pub found : (words : List Text) → AllPlain words → fault_of all_commands words ≡ [] → Found words
 found words plain passes = pick (verdict words plain)
   where
@@ -44,10 +45,12 @@ formless words plain fails = pick (verdict words plain)
 
 -- the subcommand that was met, its name and its rows, each by itself
 module _ {Z : Type 0} where
+  -- a command whose name and values were found was met
   pub is_met : (o : Option (Box SubCommand Z)) (name : Text) (rows : List Row) → subcommand_rows o ≡ Some (name, rows) → is_some o ≡ true
   is_met None name rows e = ap is_some e
   is_met (Some b) name rows e = refl
 
+  -- its name is the one that was found
   pub name_met : (o : Option (Box SubCommand Z)) (name : Text) (rows : List Row) → subcommand_rows o ≡ Some (name, rows)
       → option_map (λ b. (out-SubCommand (box_value b)).name.now) o ≡ Some name
   name_met None name rows e = absurd (true≢false (sym (ap is_some e)))
@@ -58,6 +61,7 @@ pub weaken : {X : Type 0} (o : Option X) (P Q : X → Type 0) → ((x : X) → P
 weaken None P Q imply there = absurd there
 weaken (Some x) P Q imply there = imply x there
 
+-- where something holds of what is there, it is not absent
 pub is_there : {X : Type 0} (o : Option X) (P : X → Type 0) (A : Type 0) → IsSomeAnd o P → IfNone o A
 is_there None P A there = absurd there
 is_there (Some x) P A there = tt
