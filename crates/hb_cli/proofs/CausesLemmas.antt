@@ -2,12 +2,10 @@
 use Rattle.std.proofs.Common.{◌≡◌, ◌≢◌, ◌<◌, ◌≤◌, ◌∙◌, ℕ, Bool, true, false, List, ap, arith, inl, inr, length, refl, subst, sym}
 use Rattle.std.specs.Prelude.{IsFalse, IsTrue, Result, Ok, Err}
 use Rattle.hb_replay.specs.Contents.{Contents}
-use Rattle.hb_replay.specs.ReplayReading.{IsReading}
 use Rattle.hb_replay.specs.declared.errors.ReplayError.{ReplayError}
 use Rattle.hb_replay.specs.declared.errors.ReplayError.TheVariants as replay
 use Rattle.hb_replay.proofs.IsReadingLemmas.{reading-once}
 use Rattle.hb_words.specs.Commands.{IsCommand}
-use Rattle.hb_words.specs.declared.commands.Command.{Command}
 use Rattle.hb_words.specs.declared.commands.Command.TheVariants.{Games, Make, Replay, Script as RunsScript}
 use Rattle.hb_words.specs.declared.commands.ReplayCommand.{ReplayCommand}
 use Rattle.hb_cli.specs.declared.replays.TheConstants.{MOST_INPUT}

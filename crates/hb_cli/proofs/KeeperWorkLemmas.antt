@@ -10,7 +10,7 @@ use Rattle.hb_keeper.specs.Told.{FaultsAsPlanned, IsFailure, Keeps, Plans}
 use Rattle.hb_club.specs.Fronts.{Fronts, House, no_events}
 use Rattle.hb_house.specs.declared.plain.TheConstants.{MOST_ROOMS}
 use Rattle.hb_house.specs.ClerkRounds.{AtEach}
-use Rattle.hb_house.specs.KeeperSteps.{IsSure, Telling, Tells, Worked}
+use Rattle.hb_house.specs.KeeperSteps.{IsSure, Telling, Tells}
 use Rattle.hb_house.specs.PlainHalls.{house_with}
 use Rattle.hb_house.proofs.KeeperStepsLemmas.{failed, sure_before, worked, worked_sure}
 use Rattle.hb_script.specs.declared.scripts.Script.{Script}

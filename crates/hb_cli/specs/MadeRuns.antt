@@ -8,10 +8,7 @@ use Rattle.hb_run.specs.HeldRuns.{MOST_BYTES}
 use Rattle.hb_run.specs.RunLines.{RunState, first_state}
 use Rattle.hb_run.specs.ScriptRuns.{Runs}
 use Rattle.hb_script.specs.MadeScripts.{made_acts, made_lines, made_score, made_shoe}
-use Rattle.hb_words.specs.declared.commands.Command.TheVariants.{Make}
-use Rattle.hb_words.specs.Commands.{IsCommand}
 use Rattle.hb_cli.specs.declared.made_runs.Sums.{Sums}
-use Rattle.hb_cli.specs.Asked.{Asked}
 use Rattle.hb_cli.specs.Begun.{Begun}
 
 -- its lines lead from this state to another, and the sums are those of its games, and of the texts

@@ -1,6 +1,6 @@
 //! What does the run of a made script come to?
 
-ghost use Rattle.std.specs.Prelude.{◌≡◌, ◌≤◌, ℕ, All, None, IfOk, OnOk};
+ghost use Rattle.std.specs.Prelude.{◌≡◌, ◌≤◌, All, None, IfOk, OnOk};
 ghost use Rattle.hb_house.specs.ClerkRounds.{AtEach};
 ghost use Rattle.hb_house.specs.KeeperSteps.{Tells};
 ghost use Rattle.hb_run.specs.HeldRuns.{FromEach, IsAt};

@@ -1,6 +1,6 @@
 //! What does `script` do?
 
-ghost use Rattle.std.specs.Prelude.{◌≡◌, ℕ, ⊤, All, IfErr, IfOk, IsErrOf, IsTrue, List, OnOk};
+ghost use Rattle.std.specs.Prelude.{◌≡◌, ℕ, All, IfErr, IfOk, IsErrOf, IsTrue, List, OnOk};
 ghost use Rattle.std.specs.Io.KnownBytes.{IsAtEnd};
 ghost use Rattle.hb_io.specs.Causes.{Rose};
 ghost use Rattle.hb_house.specs.KeeperSteps.{Tells};

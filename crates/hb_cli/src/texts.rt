@@ -1,6 +1,6 @@
 //! What does each command write for a replay?
 
-ghost use Rattle.std.specs.Prelude.{◌≡◌, ◌++◌, ◌<◌, ◌≤◌, ◌⊎◌, codes, length, map, string_bytes, IfErr, IfOk, IsFalse, IsTrue};
+ghost use Rattle.std.specs.Prelude.{◌≡◌, ◌++◌, ◌<◌, ◌≤◌, ◌⊎◌, codes, length, IfErr, IfOk, IsFalse, IsTrue};
 ghost use Rattle.hb_replay.specs.Canonical.{canonical_text};
 ghost use Rattle.hb_cli.specs.Outputs.{after_first, check_text as text_of_check, has_view as has_view_of, only as only_of, output as output_of, seen_by, watch_text as text_of_watch};
 ghost use Rattle.hb_game_lines.specs.Standing.{standing_text};

@@ -1,5 +1,5 @@
 -- What does each kind of turn leave of a session, of the texts and of the lists?
-use Rattle.std.proofs.Common.{◌≡◌, ℕ, ◌≤◌, Bool, true, false, List, [], ◌∷◌, ◌++◌, refl, ◌∙◌, ap, subst, Some, None}
+use Rattle.std.proofs.Common.{◌≡◌, ℕ, Bool, true, false, List, [], ◌∷◌, ◌++◌, refl, ◌∙◌, ap, subst, Some, None}
 use Rattle.std.specs.Prelude.{Option, ◌==◌, ⊤}
 use Rattle.hb_club.specs.declared.answers.Answered.{Answered}
 use Rattle.hb_club.specs.declared.commands.Entry.{Entry}

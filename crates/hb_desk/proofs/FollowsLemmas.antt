@@ -1,7 +1,7 @@
 -- Is the cursor of a session where the answer of its room begins? Yes, if it fitted the lists before.
-use Rattle.std.proofs.Common.{◌≡◌, ℕ, ◌+◌, ◌-◌, ◌≤◌, List, ◌∷◌, ◌++◌, length, drop, refl, sym, ◌∙◌, ap, subst, arith, length-append, Some, None}
+use Rattle.std.proofs.Common.{◌≡◌, ℕ, ◌+◌, ◌-◌, ◌≤◌, List, ◌++◌, length, drop, refl, sym, ◌∙◌, ap, subst, arith, length-append, Some, None}
 use Rattle.std.proofs.Math.Seq.{drop-append_seam}
-use Rattle.std.specs.Prelude.{Option, ◌==◌}
+use Rattle.std.specs.Prelude.{Option}
 use Rattle.hb_review.specs.Reviews.{first_of}
 use Rattle.hb_club.specs.declared.answers.Answered.{Answered}
 use Rattle.hb_club.specs.declared.items.Item.{Item}

@@ -1,5 +1,5 @@
 -- Do the lists of a hall go on through a turn? Yes, whatever the turn answers.
-use Rattle.std.proofs.Common.{◌≡◌, ℕ, Bool, List, ◌∷◌, refl}
+use Rattle.std.proofs.Common.{ℕ, Bool, List, ◌∷◌, refl}
 use Rattle.hb_club.specs.declared.lobby.LobbyEntry.{LobbyEntry}
 use Rattle.hb_club.specs.Fronts.{Fronts}
 use Rattle.hb_club.specs.HallAnswers.{LobbyAnswers, NothingOwn, NothingOwnLobby, RoomAnswers}

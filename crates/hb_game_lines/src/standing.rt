@@ -1,6 +1,6 @@
 //! How does a game stand, in the line of its state and the lines of all hands?
 
-ghost use Rattle.std.specs.Prelude.{◌≡◌, ℕ, ◌≤◌, ◌++◌, IfOk, OnErr, OnOk, length, map, string_bytes};
+ghost use Rattle.std.specs.Prelude.{◌≡◌, ℕ, ◌++◌, IfOk, OnErr, OnOk, map, string_bytes};
 ghost use Rattle.std.specs.List.{range_with_len};
 ghost use Rattle.hb_rules.specs.Cards.{suit_count};
 ghost use Rattle.hb_rules.specs.Observed.{observed};

@@ -1,6 +1,6 @@
 -- Is a game that was due noted as kept behind the round of its room? Yes, by this clerk or another.
-use Rattle.std.proofs.Common.{◌≡◌, ℕ, ◌+◌, Bool, true, List, [], ◌∷◌, ◌++◌, refl, ap, sym, subst, ◌∙◌, inl, inr, Some, Option, if◌then◌else◌}
-use Rattle.std.specs.Prelude.{◌&&◌, ◌==◌, ◌⊎◌, is_some, not}
+use Rattle.std.proofs.Common.{◌≡◌, ℕ, ◌+◌, Bool, true, List, [], ◌∷◌, ◌++◌, refl, ap, sym, subst, ◌∙◌, inl, inr, Some, Option}
+use Rattle.std.specs.Prelude.{◌&&◌, ◌==◌, is_some, not}
 use Rattle.std.proofs.lemmas.Bool.{and_from, and_parts}
 use Rattle.std.proofs.lemmas.Bool.Decides.{Decides-eqb}
 use Rattle.hb_keeper.specs.declared.rows.GameRow.{GameRow}

@@ -1,6 +1,6 @@
 //! What is a hall, and what does each of its calls answer?
 
-ghost use Rattle.std.specs.Prelude.{◌≡◌, ◌↔◌, ◌≤◌, ℕ, Bool, IfOk, OnOk, OnErr, IsTrue, IsErrOf};
+ghost use Rattle.std.specs.Prelude.{◌≡◌, ◌↔◌, ℕ, Bool, IfOk, OnOk, OnErr, IsTrue, IsErrOf};
 ghost use Rattle.hb_club.specs.Fronts.{Fronts, House, IsRoom, site_of};
 ghost use Rattle.hb_club.specs.HallAnswers.{HasRun, IsLobbyAnswer, IsNoted, IsRoomAnswer, IsTodo, LobbyAnswers, NothingOwn, NothingOwnLobby, RoomAnswers};
 ghost use Rattle.hb_club.specs.RoomEvents.{AsksTodo, Call, note_event};

@@ -1,6 +1,6 @@
 //! How is a text handed between crates, so that contracts see its bytes?
 
-ghost use Rattle.std.specs.Prelude.{◌≡◌, ◌↔◌, [], ◌∷◌, ◌++◌, length, IsTrue, IfOk, OnOk, OnErr, string_bytes};
+ghost use Rattle.std.specs.Prelude.{◌≡◌, ◌↔◌, [], length, IsTrue, IfOk, string_bytes};
 
 use std::alloc::{AllocError, Global};
 use std::fmt;

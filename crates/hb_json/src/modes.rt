@@ -2,7 +2,6 @@
 
 ghost use Rattle.std.specs.Prelude.{◌≡◌, IfOk, MatchResult, Ok, Err};
 ghost use Rattle.serde_json.specs.View.{view};
-ghost use Rattle.hb_json.specs.OptionKey.{option_name};
 ghost use Rattle.hb_json.specs.JsonReading.{whole_of};
 ghost use Rattle.hb_json.specs.WrittenModes.{AreModes, fault_key, flag_in, modes_fault, modes_in, option_in, options_with, starting_in, unless_fault, variant_in};
 

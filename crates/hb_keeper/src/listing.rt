@@ -1,6 +1,6 @@
 //! Which games has each member played, without a walk over all games?
 
-ghost use Rattle.std.specs.Prelude.{◌≡◌, List, ℕ, [], ◌∷◌, length, bytes_eq, IfOk, OnOk, OnErr};
+ghost use Rattle.std.specs.Prelude.{◌≡◌, List, ℕ, [], length, bytes_eq, IfOk, OnOk, OnErr};
 ghost use Rattle.std.specs.List.{list_any};
 ghost use Rattle.hb_keeper.specs.Listing.{IsListed, ListedFor, ListedForSome, lines_for, with_line};
 

@@ -1,6 +1,6 @@
 //! Which identities can one card have, from one assignment?
 
-ghost use Rattle.std.specs.Prelude.{◌<◌, ◌≤◌, length};
+ghost use Rattle.std.specs.Prelude.{◌<◌, length};
 ghost use Rattle.hb_match.specs.Matching.{IsAssignment, IsPossibleSet};
 
 use crate::IDENTITIES;

@@ -4,7 +4,7 @@ ghost use Rattle.std.specs.Prelude.{◌≡◌, Err, Ok, MatchResult};
 ghost use Rattle.serde_json.specs.Find.{get};
 ghost use Rattle.serde_json.specs.View.{view, items_view};
 ghost use Rattle.hb_json.specs.JsonReading.{below_of};
-ghost use Rattle.hb_replay.specs.Shape.{list_at, number_at, player_at, card_at, valued_action as valued_action_of, action_of_kind, action_at};
+ghost use Rattle.hb_replay.specs.Shape.{list_at, number_at, card_at, valued_action as valued_action_of, action_of_kind, action_at};
 
 use crate::place::{Part, Place, PlaceField};
 use crate::written::WrittenAction;

@@ -4,7 +4,7 @@ ghost use Rattle.std.specs.Prelude.{◌≡◌, Err, IfOk, MatchResult, Ok, codes
 ghost use Rattle.serde_json.specs.View.{view};
 ghost use Rattle.hb_suits.specs.VariantNames.{variant_of};
 ghost use Rattle.hb_json.specs.WrittenModes.{AreModes};
-ghost use Rattle.hb_request.specs.Fields.{action_in, action_number, action_of, action_of_kind, asked, clue_asked, clue_in, note_asked, open_in, options_in, table_options_in, variant_name_in};
+ghost use Rattle.hb_request.specs.Fields.{action_in, action_number, action_of_kind, asked, clue_asked, clue_in, note_asked, open_in, options_in, table_options_in, variant_name_in};
 ghost use Rattle.hb_request.specs.Opening.{opened as opened_with};
 ghost use Rattle.hb_request.specs.Parsed.{Gives, fielded};
 ghost use Rattle.hb_request.specs.Ranges.{IsAsk, IsClue};

@@ -1,6 +1,6 @@
 //! What does a single field of a request's JSON object say, or which field is wrong?
 
-ghost use Rattle.std.specs.Prelude.{◌≡◌, ◌≤◌, length, IfOk, OnErr, MatchResult, Ok, Err};
+ghost use Rattle.std.specs.Prelude.{◌≡◌, ◌≤◌, length, IfOk, MatchResult, Ok, Err};
 ghost use Rattle.serde_json.specs.View.{view};
 ghost use Rattle.hb_request.specs.declared.limits.TheConstants.{HIGHEST_ID, HIGHEST_ORDER, HIGHEST_SEAT, KEY_LIMIT};
 ghost use Rattle.hb_request.specs.Fields.{number_in, text_in, key_in, room_in, table_in, request_number_in, order_in, seat_in, id_in, turn_in, shadow_in};

@@ -1,5 +1,5 @@
 -- What does a call of the clerk say of a line of a script?
-use Rattle.std.proofs.Common.{◌≡◌, ℕ, Bool, true, false, List, [], refl, sym, ap, subst, ◌∙◌, inl, inr, Some}
+use Rattle.std.proofs.Common.{◌≡◌, ℕ, Bool, true, List, refl, sym, subst, ◌∙◌, inl, inr, Some}
 use Rattle.std.proofs.KnownBytes.{Appends-nil}
 use Rattle.std.specs.Io.KnownBytes.{Appends}
 use Rattle.std.specs.Prelude.{Option}
@@ -10,13 +10,12 @@ use Rattle.hb_house.specs.declared.reports.Report.{Report}
 use Rattle.hb_house.specs.ClerkRounds.{AllRounds, begun}
 use Rattle.hb_house.specs.ClerkStops.{Stopped}
 use Rattle.hb_house.specs.KeeperSteps.{Telling}
-use Rattle.hb_talk.specs.declared.scripts.ScriptLine.{ScriptLine}
 use Rattle.hb_talk.specs.declared.scripts.ScriptLine.TheVariants as line
 use Rattle.hb_run.specs.declared.ends.RunEnd.{RunEnd}
 use Rattle.hb_run.specs.declared.held.ScriptRun.{ScriptRun}
 use Rattle.hb_run.specs.HeldRuns.{AreDesks, Holds, IsAt}
 use Rattle.hb_run.specs.RunLines.{ClerkHalts, RunState, fault_line, place_of, report_line}
-use Rattle.hb_run.specs.RunSteps.{CutsLine, HaltsLine, RunsLine, StopsLine}
+use Rattle.hb_run.specs.RunSteps.{RunsLine, StopsLine}
 use Rattle.hb_run.specs.ScriptRuns.{ClerkEnds, HaltsBy}
 use Rattle.hb_run.specs.WrittenFronts.{AppendsFront, IsWriteEnd}
 use Rattle.hb_run.proofs.HeldLemmas.{desks-on}

@@ -1,5 +1,5 @@
 -- What stays through the lines of a run? The lists of the rooms go on, and a content that is told can still be relied on.
-use Rattle.std.proofs.Common.{◌≡◌, ℕ, Bool, true, false, zero, suc, List, [], ◌∷◌, ◌++◌, refl, sym, ap, subst, inl, inr, Some, None}
+use Rattle.std.proofs.Common.{◌≡◌, ℕ, Bool, true, false, zero, suc, List, [], ◌∷◌, ◌++◌, sym, ap, subst, inl, inr, Some, None}
 use Rattle.std.specs.Prelude.{Option, Result}
 use Rattle.hb_keeper.specs.declared.errors.KeepError.{KeepError}
 use Rattle.hb_keeper.specs.declared.errors.KeepError.TheVariants as keep
@@ -14,7 +14,7 @@ use Rattle.hb_club.specs.RoomEvents.{AsksTodo, Call, RoomEvent, Site}
 use Rattle.hb_house.specs.declared.reports.ClerkError.{ClerkError}
 use Rattle.hb_house.specs.declared.reports.ClerkError.TheVariants as clerk
 use Rattle.hb_house.specs.declared.reports.Report.{Report}
-use Rattle.hb_house.specs.ClerkRounds.{Asks, Place, Round, Rounds, StepAt, Then, begun}
+use Rattle.hb_house.specs.ClerkRounds.{Asks, Place, Round, Rounds, StepAt, begun}
 use Rattle.hb_house.specs.ClerkStops.{LoadStops, RoundStops, SaveStops, SettleStops}
 use Rattle.hb_house.specs.KeeperSteps.{Failed, FailedOn, FaultLeaves, IsSure, IsSureOf, Telling, next_failure}
 use Rattle.hb_house.proofs.GoesOnLemmas.{all-on, asks-on, goes_on-same, goes_on-trans, others-on, settle_stops-on, settles-on}
@@ -26,7 +26,6 @@ use Rattle.hb_talk.specs.declared.errands.Errand.TheVariants as errand
 use Rattle.hb_talk.specs.declared.scripts.ScriptLine.{ScriptLine}
 use Rattle.hb_talk.specs.declared.scripts.ScriptLine.TheVariants as line
 use Rattle.hb_talk.specs.Errands.{asked}
-use Rattle.hb_talk.specs.Scripts.{session_of}
 use Rattle.hb_talk.specs.Sessions.{RoomCalls, TurnCalls}
 use Rattle.hb_run.specs.RunLines.{ClerkHalts, LineRuns, RunState, place_of}
 use Rattle.hb_run.specs.ScriptRuns.{Runs}

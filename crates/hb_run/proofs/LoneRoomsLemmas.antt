@@ -1,18 +1,18 @@
 -- What does the clerk do in the round of one room, if nobody else comes to it, and the keeper tells what it contains and which of
 -- its calls fail? What the definition of the lone clerk says.
-use Rattle.std.proofs.Common.{◌≡◌, ◌≢◌, ℕ, ◌+◌, Bool, true, false, List, [], ◌∷◌, ◌++◌, refl, sym, ap, subst, ◌∙◌, inl, inr, Some, None, Ok, Err}
-use Rattle.std.specs.Prelude.{◌⊎◌, Option, Result, option_map}
+use Rattle.std.proofs.Common.{◌≡◌, ◌≢◌, ℕ, ◌+◌, Bool, true, List, [], ◌∷◌, ◌++◌, refl, sym, ap, subst, ◌∙◌, inl, inr, Some, None, Ok}
+use Rattle.std.specs.Prelude.{◌⊎◌, Option, option_map}
 use Rattle.hb_keeper.specs.declared.errors.KeepError.{KeepError}
 use Rattle.hb_keeper.specs.declared.errors.KeepError.TheVariants as keep
 use Rattle.hb_keeper.specs.declared.rows.GameRow.{GameRow}
 use Rattle.hb_keeper.specs.declared.rows.Key.{Key}
-use Rattle.hb_keeper.specs.KeptGames.{Content, get_on, put_on}
+use Rattle.hb_keeper.specs.KeptGames.{get_on, put_on}
 use Rattle.hb_club.specs.declared.clerks.ClerkNote.{ClerkNote}
 use Rattle.hb_club.specs.declared.clerks.ClerkNote.TheVariants as note
 use Rattle.hb_club.specs.declared.clerks.Noted.{Noted}
 use Rattle.hb_club.specs.declared.clerks.Noted.TheVariants as noted
 use Rattle.hb_club.specs.declared.clerks.Todo.{Todo}
-use Rattle.hb_club.specs.Fronts.{Fronts, House, site_of}
+use Rattle.hb_club.specs.Fronts.{House, site_of}
 use Rattle.hb_club.specs.RoomEvents.{Added, AsksTodo, Due, Outcome, RoomEvent, Site, note_event}
 use Rattle.hb_club.specs.Rooms.{answer_to}
 use Rattle.hb_house.specs.declared.reports.ClerkError.{ClerkError}
@@ -24,8 +24,8 @@ use Rattle.hb_house.specs.ClerkStops.{LoadStops, RoundStops, SaveStops, SettleSt
 use Rattle.hb_house.specs.KeeperSteps.{Failed, Telling, Worked}
 use Rattle.hb_house.proofs.NotedLemmas.{notes-add}
 use Rattle.hb_house.proofs.PlainStandsLemmas.{with_event-here, with_event-there}
-use Rattle.hb_talk.specs.Keeping.{Keeping, keeper_call}
-use Rattle.hb_talk.specs.LoneClerk.{Round as LoneRound, counted, does, loaded_by, loads_unless, noted_in, noting, room_answer, saved_by, saves, todo_in, visit_unless, with_call, with_keeping}
+use Rattle.hb_talk.specs.Keeping.{Keeping}
+use Rattle.hb_talk.specs.LoneClerk.{Round as LoneRound, counted, does, loads_unless, noted_in, noting, room_answer, saves, todo_in, visit_unless, with_call, with_keeping}
 use Rattle.hb_run.specs.LoneRuns.{telling}
 use Rattle.hb_run.proofs.ToldCallsLemmas.{CallIs, HasNoPlan, IsKnown, failed-call, worked-call}
 

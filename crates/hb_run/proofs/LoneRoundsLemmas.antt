@@ -7,7 +7,7 @@ use Rattle.std.specs.Prelude.{Option}
 use Rattle.std.specs.List.{range_with_len}
 use Rattle.hb_keeper.specs.declared.errors.KeepError.{KeepError}
 use Rattle.hb_keeper.specs.declared.errors.KeepError.TheVariants as keep
-use Rattle.hb_club.specs.Fronts.{ElseSame, Fronts, House, site_of}
+use Rattle.hb_club.specs.Fronts.{ElseSame, Fronts, House}
 use Rattle.hb_house.specs.declared.reports.Report.{Report}
 use Rattle.hb_house.specs.ClerkReports.{by_keeper}
 use Rattle.hb_house.specs.ClerkRounds.{Place, Rounds, begun}

@@ -1,5 +1,5 @@
 -- Do lines that are run over a lone hall do and write what `hb_talk` says of a script? Yes.
-use Rattle.std.proofs.Common.{◌≡◌, ◌≢◌, ℕ, ◌<◌, ◌≤◌, suc, Bool, true, false, ◌||◌, List, [], ◌∷◌, ◌++◌, refl, sym, ap, subst, ◌∙◌, append_assoc, append-nil, arith, reverse, take, drop, length, length-append, take-append-drop, codes, decimal, if◌then◌else◌, inl, inr, Some, None, get_or, drop-cons, nat_eq}
+use Rattle.std.proofs.Common.{◌≡◌, ◌≢◌, ℕ, ◌<◌, ◌≤◌, suc, Bool, true, false, ◌||◌, List, [], ◌∷◌, ◌++◌, refl, sym, ap, subst, ◌∙◌, append_assoc, append-nil, arith, reverse, take, drop, length, length-append, take-append-drop, codes, decimal, if◌then◌else◌, inl, inr, Some, None, drop-cons, nat_eq}
 use Rattle.std.proofs.lemmas.Bool.{eqb-false}
 use Rattle.std.proofs.lemmas.Bool.Decides.{nat_tests}
 use Rattle.std.proofs.lemmas.List.{reverse-append, take-append-le}
@@ -32,7 +32,7 @@ use Rattle.hb_talk.specs.Sessions.{RoomCalls, TurnCalls}
 use Rattle.hb_talk.specs.Turns.{FromLobby, FromRoom, Turn, heard, heard_when, turn_of, turn_on}
 use Rattle.hb_run.specs.LoneRuns.{IsScript, IsStage, KnowsFaults, LoneEnds, LoneFronts, LoneRuns, StopsScript}
 use Rattle.hb_run.specs.RunLines.{ClerkFaults, ClerkHalts, ClerkRuns, LineRuns, RunState, TurnRuns, place_of, report_line}
-use Rattle.hb_run.specs.ScriptRuns.{ClerkEnds, Runs}
+use Rattle.hb_run.specs.ScriptRuns.{Runs}
 use Rattle.hb_run.specs.WrittenFronts.{AppendsFront}
 use Rattle.hb_run.proofs.ToldCallsLemmas.{IsKnown}
 use Rattle.hb_run.proofs.LoneRoundsLemmas.{IsLone, IsLoneBy, halts-lone, rounds-lone}

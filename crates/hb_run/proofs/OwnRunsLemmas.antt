@@ -1,5 +1,5 @@
 -- Does a keeper contain the games of the run alone behind lines, so that no key differs? Yes.
-use Rattle.std.proofs.Common.{◌≡◌, ℕ, Bool, suc, List, [], ◌∷◌, sym, subst, inl, inr}
+use Rattle.std.proofs.Common.{ℕ, Bool, suc, List, [], ◌∷◌, sym, subst, inl, inr}
 use Rattle.hb_club.specs.Fronts.{House}
 use Rattle.hb_house.specs.declared.reports.ClerkError.TheVariants as clerk
 use Rattle.hb_house.specs.ClerkRounds.{begun}

@@ -4,7 +4,7 @@ use Rattle.std.proofs.KnownBytes.{Appends-nil}
 use Rattle.std.specs.Io.KnownBytes.{Appends}
 use Rattle.std.specs.Prelude.{◌⊎◌, IfErr, OnOk, Option, Result, Ok, Err, slice_get}
 use Rattle.hb_io.specs.declared.got.Got.{Got}
-use Rattle.hb_club.specs.Fronts.{AllGoOn, Fronts, House}
+use Rattle.hb_club.specs.Fronts.{Fronts, House}
 use Rattle.hb_house.specs.KeeperSteps.{Telling}
 use Rattle.hb_talk.specs.declared.scripts.ScriptLine.{ScriptLine}
 use Rattle.hb_talk.specs.declared.scripts.ScriptLine.TheVariants as line
@@ -14,14 +14,14 @@ use Rattle.hb_talk.specs.Scripts.{sent, session_of}
 use Rattle.hb_talk.specs.Sessions.{TurnCalls}
 use Rattle.hb_talk.specs.Turns.{turn_of}
 use Rattle.hb_desk.specs.declared.desks.Desk.{Desk}
-use Rattle.hb_desk.specs.Desks.{DeskFits, DeskTurned, session_of as desk_session}
+use Rattle.hb_desk.specs.Desks.{DeskTurned, session_of as desk_session}
 use Rattle.hb_desk.specs.DeskTurns.{GoesTo}
 use Rattle.hb_run.specs.declared.ends.RunEnd.{RunEnd}
 use Rattle.hb_run.specs.declared.ends.RunEnd.TheVariants.{KeyDiffers, NoMemory, UsedUp, WriteFault, Worn}
 use Rattle.hb_run.specs.declared.held.ScriptRun.{ScriptRun}
 use Rattle.hb_run.specs.HeldRuns.{AreDesks, FromEach, Holds, IsAt, MOST_BYTES}
-use Rattle.hb_run.specs.RunLines.{LineRuns, RunState, TurnRuns, text_bytes}
-use Rattle.hb_run.specs.RunSteps.{AnyTelling, CutsLine, HaltsLine, RunsLine, StopsLine}
+use Rattle.hb_run.specs.RunLines.{LineRuns, RunState, text_bytes}
+use Rattle.hb_run.specs.RunSteps.{AnyTelling, RunsLine, StopsLine}
 use Rattle.hb_run.specs.ScriptRuns.{HaltsBy}
 use Rattle.hb_run.specs.WrittenFronts.{AppendsFront, IsWriteEnd}
 use Rattle.hb_run.proofs.HeldLemmas.{desks-kept, desks-turned}

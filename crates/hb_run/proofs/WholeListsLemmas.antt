@@ -1,5 +1,5 @@
 -- Are the games whole that the clerk of a script brings to the rooms? Yes, as each note of it brings a whole game or none.
-use Rattle.std.proofs.Common.{◌≡◌, ℕ, Bool, true, false, List, [], ◌∷◌, refl, ap, subst, Some, None, Ok, Err, if◌then◌else◌, nat_eq}
+use Rattle.std.proofs.Common.{ℕ, Bool, true, false, List, [], ◌∷◌, Some, None, Ok, Err, if◌then◌else◌, nat_eq}
 use Rattle.std.specs.Prelude.{Option, Result, option_map}
 use Rattle.std.specs.List.{range_with_len}
 use Rattle.hb_keeper.specs.declared.errors.KeepError.{KeepError}
@@ -11,7 +11,7 @@ use Rattle.hb_club.specs.declared.clerks.ClerkNote.TheVariants as note
 use Rattle.hb_club.specs.declared.clerks.Noted.{Noted}
 use Rattle.hb_club.specs.declared.clerks.Noted.TheVariants as noted
 use Rattle.hb_club.specs.declared.clerks.Todo.{Todo}
-use Rattle.hb_club.specs.Fronts.{Fronts, House, is_room, no_events, with_event}
+use Rattle.hb_club.specs.Fronts.{Fronts, House, is_room, with_event}
 use Rattle.hb_club.specs.RoomEvents.{AsksTodo, Call, RoomEvent, note_event}
 use Rattle.hb_club.specs.WholeGames.{BringWhole, BringsWhole}
 use Rattle.hb_club.proofs.WholeGamesLemmas.{note_event-whole}
@@ -21,7 +21,7 @@ use Rattle.hb_talk.specs.declared.scripts.ScriptLine.{ScriptLine}
 use Rattle.hb_talk.specs.declared.scripts.ScriptLine.TheVariants as line
 use Rattle.hb_talk.specs.Errands.{asked}
 use Rattle.hb_talk.specs.Keeping.{Keeping, keeper_call}
-use Rattle.hb_talk.specs.LoneClerk.{Round, clerk_round, counted, does, loaded_by, loads_unless, new_round, noted_in, noting, room_answer, saved_by, saves, todo_in, visit_unless, visits, with_call, with_keeping}
+use Rattle.hb_talk.specs.LoneClerk.{Round, counted, does, loaded_by, loads_unless, new_round, noted_in, noting, room_answer, saved_by, saves, todo_in, visit_unless, visits, with_call, with_keeping}
 use Rattle.hb_talk.specs.Scripts.{Stage, fronts_after, ran_unless, session_of, stage_after}
 
 -- each list brings whole games

@@ -1,6 +1,6 @@
 -- What may the member of a connection observe at its turns, and what is the connection sent? Lines,
 -- events and turns stand newest first.
-use Rattle.std.specs.Prelude.{ℕ, Bool, true, false, ◌==◌, List, [], ◌∷◌, ◌++◌, Option, Some, None, bytes_eq, if◌then◌else◌}
+use Rattle.std.specs.Prelude.{ℕ, Bool, true, false, ◌==◌, List, [], ◌∷◌, ◌++◌, Option, None, bytes_eq, if◌then◌else◌}
 use Rattle.hb_io.specs.declared.got.Got.{Got}
 use Rattle.hb_keeper.specs.declared.errors.KeepError.{KeepError}
 use Rattle.hb_club.specs.declared.commands.Entry.{Entry}

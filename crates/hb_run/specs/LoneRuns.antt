@@ -1,7 +1,6 @@
 -- What is written of lines over a hall that nobody else calls, with a keeper that tells what it
 -- contains, and which of its calls fail or that none did? The text that `script_text` says of them.
 use Rattle.std.specs.Prelude.{◌≡◌, ◌⊎◌, ℕ, Bool, true, false, ⊤, List, [], Option, Some, None, reverse, slice_get, take}
-use Rattle.std.specs.Io.KnownBytes.{Appends}
 use Rattle.hb_keeper.specs.declared.errors.KeepError.{KeepError}
 use Rattle.hb_keeper.specs.declared.errors.KeepError.TheVariants as keep
 use Rattle.hb_club.specs.Fronts.{House}

@@ -1,7 +1,6 @@
 -- What does a line of a script do to the state of a run, and what does it write? Events of others
 -- may come to the rooms and to the lobby meanwhile.
 use Rattle.std.specs.Prelude.{◌≡◌, ◌<◌, ◌+◌, ◌⊎◌, ℕ, suc, Bool, true, false, List, [], ◌∷◌, ◌++◌, codes, decimal, length, map, sum}
-use Rattle.hb_io.specs.declared.got.Got.{Got}
 use Rattle.hb_club.specs.Fronts.{Fronts, House, site_of}
 use Rattle.hb_house.specs.declared.reports.ClerkError.{ClerkError}
 use Rattle.hb_house.specs.declared.reports.ClerkError.TheVariants.{KeeperFault}

@@ -7,7 +7,7 @@ ghost use Rattle.hb_keeper.specs.declared.rows.GameRow.{GameRow};
 ghost use Rattle.hb_keeper.specs.KeptGames.{greatest, row_of_id, id_of};
 ghost use Rattle.hb_sqlite.specs.StoreTables.{row_shown, seat_name, seat_shown, cells_of, names_in, ids_from, id_row};
 ghost use Rattle.hb_sqlite.specs.Rows.{IsHead, IsHeadOf};
-ghost use Rattle.hb_sqlite.specs.StoreSteps.{Does, Reads};
+ghost use Rattle.hb_sqlite.specs.StoreSteps.{Reads};
 
 use crate::errors::Failure;
 use crate::numbers::{GREATEST, stored};

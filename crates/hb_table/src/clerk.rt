@@ -9,7 +9,7 @@ use crate::room::Room;
 use hb_club::{ClerkNote, Item, Noted, Todo, What};
 use hb_io::Text;
 use hb_keeper::{GameRow, Key};
-use hb_playing::{GameReview, LoadedGame, RowError, is_ended, read_kept, row, take};
+use hb_playing::{GameReview, LoadedGame, RowError, read_kept, row, take};
 use hb_turns::Game;
 use std::alloc::{AllocError, Global};
 

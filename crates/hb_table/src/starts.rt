@@ -24,7 +24,7 @@ fn timer_of(game: &Option<Game>, moment: u64) -> Option<Timer>
 }
 
 impl Room {
-    ghost use Rattle.std.specs.Prelude.{◌≡◌, ◌≤◌, ℕ, false, length, min, IfOk, OnErr, OnOk};
+    ghost use Rattle.std.specs.Prelude.{◌≡◌, ◌≤◌, false, length, min, IfOk, OnErr, OnOk};
     ghost use Rattle.hb_club.specs.declared.commands.Command.TheVariants as commands;
     ghost use Rattle.hb_club.specs.NewItems.{by_seat};
     ghost use Rattle.hb_rules.specs.declared.limits.TheConstants.{FEWEST_PLAYERS};

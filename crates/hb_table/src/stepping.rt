@@ -29,7 +29,7 @@ fn note_text(command: &Command) -> Result<Option<Text>, AllocError>
 impl Room {
     ghost use Rattle.std.specs.Prelude.{◌≡◌, ◌<◌, false, true, List, IfOk, OnErr, OnOk, is_some};
     ghost use Rattle.hb_club.specs.CommandKinds as kinds;
-    ghost use Rattle.hb_club.specs.RoomEvents.{Call, RoomEvent};
+    ghost use Rattle.hb_club.specs.RoomEvents.{RoomEvent};
     ghost use Rattle.hb_club.specs.SeenTable.{answer};
     ghost use Rattle.hb_club.specs.ViewLaws.{view_for};
     ghost use Rattle.hb_club.specs.Views.{own_at};

@@ -3,7 +3,7 @@
 mod end;
 mod marks;
 
-ghost use Rattle.std.specs.Prelude.{◌≡◌, ℕ, ◌<◌, ◌≤◌, ◌^◌, length, slice_index, true, All};
+ghost use Rattle.std.specs.Prelude.{◌≡◌, ℕ, ◌<◌, ◌≤◌, ◌^◌, slice_index, true, All};
 ghost use Rattle.hb_rules.specs.Cards.{number, in_range};
 ghost use Rattle.hb_rules.specs.Setup.{deal_size, card};
 ghost use Rattle.hb_sets.specs.Sets.{bit};

@@ -1,6 +1,6 @@
 //! What are a turnstile and its passes?
 
-ghost use Rattle.std.specs.Prelude.{◌≡◌, true, false, IfOk, IfErr};
+ghost use Rattle.std.specs.Prelude.{◌≡◌, false, IfOk, IfErr};
 ghost use Rattle.hb_turnstile.specs.Known.{first_pass, with_mark, Calls, IsSplitOff, Joins};
 
 use crate::machine::Machine;

@@ -22,7 +22,7 @@ use Rattle.hb_club.specs.SeenGames.{GameIsSeen, IsSeenGame}
 use Rattle.hb_club.specs.SeenTable.{seen_game}
 use Rattle.hb_club.specs.Seating.{players}
 use Rattle.hb_club.specs.Table.{Table}
-use Rattle.hb_club.specs.TableItems.{act_in, acts, first_of_all, is_started, names_in}
+use Rattle.hb_club.specs.TableItems.{acts, first_of_all, is_started, names_in}
 use Rattle.hb_club.specs.Views.{LoadedView, View, blind_of, pieces_for, view_as}
 use Rattle.hb_club.proofs.SeenGameLemmas.{acts-append, acts-shown, first-told, seen_game-answered, seen_game-seen}
 use Rattle.hb_talk.specs.Streams.{clock_lines, game_lines, newest_piece, pieces_at, standing_lines}

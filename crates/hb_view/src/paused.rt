@@ -3,7 +3,7 @@
 ghost use Rattle.std.specs.Prelude.{◌≡◌, ◌≤◌, ◌++◌, ◌∷◌, OnOk};
 ghost use Rattle.hb_club.specs.declared.items.What.TheVariants as what;
 ghost use Rattle.hb_wire.specs.WireLine.{line_text};
-ghost use Rattle.hb_view.specs.StreamClocks.{clock_texts, ClockMoves};
+ghost use Rattle.hb_view.specs.StreamClocks.{clock_texts};
 ghost use Rattle.hb_view.specs.Writing.{Writes};
 
 use crate::acted::clock_after;

@@ -1,6 +1,6 @@
 //! What is written of a step of a review?
 
-ghost use Rattle.std.specs.Prelude.{◌≡◌, ◌≤◌, ◌++◌, ◌∷◌, ℕ, List, None, Some, OnOk, length};
+ghost use Rattle.std.specs.Prelude.{◌≡◌, ◌≤◌, ◌∷◌, ℕ, List, None, Some, OnOk, length};
 ghost use Rattle.hb_rules.specs.Positions.{after, current, rule};
 ghost use Rattle.hb_rules.specs.Setup.{by};
 ghost use Rattle.hb_review.specs.declared.steps.Step.{Step as Taken};

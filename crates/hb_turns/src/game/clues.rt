@@ -1,11 +1,11 @@
 //! Which cards are in a hand, and which of them does a clue touch?
 
-ghost use Rattle.std.specs.Prelude.{◌≡◌, ℕ, ◌<◌, ◌≤◌, ◌==◌, IfSome, IfNone, IsTrue};
+ghost use Rattle.std.specs.Prelude.{◌≡◌, ℕ, ◌<◌, ◌==◌, IfSome, IfNone, IsTrue};
 ghost use Rattle.hb_rules.specs.Touch.{offers};
 ghost use Rattle.hb_rules.specs.Hands.{is_at};
 ghost use Rattle.hb_rules.specs.Events.{bits};
 ghost use Rattle.hb_rules.specs.Positions.{hand, holder, touched};
-ghost use Rattle.hb_sets.specs.Sets.{bit, Has};
+ghost use Rattle.hb_sets.specs.Sets.{bit};
 ghost use Rattle.hb_turns.specs.ClueMasks.{IsMask};
 ghost use Rattle.hb_turns.specs.GameInvariant.{IsPlayed};
 ghost use Rattle.hb_turns.specs.Members.{IsNext, IsEndFrom};

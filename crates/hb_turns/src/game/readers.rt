@@ -2,7 +2,6 @@
 
 ghost use Rattle.std.specs.Prelude.{
   ◌≡◌,
-  ◌++◌,
   true,
   if◌then◌else◌,
   ℕ,
@@ -13,18 +12,12 @@ ghost use Rattle.std.specs.Prelude.{
   ◌≤◌,
   ◌==◌,
   ◌&&◌,
-  [],
   ◌∷◌,
   length,
-  IsTrue,
   reverse,
   Some,
   None,
   is_some,
-  is_none,
-  bit_or,
-  ◌^◌,
-  drop,
   slice_index,
 };
 ghost use Rattle.hb_rules.specs.Setup.{by, hand_size, deal_size, card};

@@ -1,9 +1,8 @@
-use Rattle.std.proofs.Common.{rules, ◌≡◌, subst, sym, inl, inr}
+use Rattle.std.proofs.Common.{rules, ◌≡◌, subst}
 use Rattle.std.proofs.KnownBytes.{Appends-nil}
 use Rattle.hb_house.proofs.ResultLemmas.{if_err, on_ok}
 use Rattle.hb_keeper.specs.KeptGames.{of_member_on}
 use Rattle.hb_script.specs.GamesText.{games_text}
-use Rattle.hb_cli.specs.Asked.{Asked}
 use Rattle.hb_cli.specs.Written.{FailsIn, Writes, sent}
 use Rattle.hb_cli.proofs.KeeperWorkLemmas.{games_refused, listed, listed_fails, refused}
 use Rattle.hb_cli.proofs.games.games.Goals as goal

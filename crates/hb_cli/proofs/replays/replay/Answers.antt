@@ -1,4 +1,4 @@
-use Rattle.std.proofs.Common.{rules, ◌≡◌, inl, inr}
+use Rattle.std.proofs.Common.{rules, inl, inr}
 use Rattle.std.proofs.KnownBytes.{Appends-nil}
 use Rattle.hb_house.proofs.ResultLemmas.{if_err, on_ok}
 use Rattle.hb_cli.proofs.replays.replay.Goals as goal

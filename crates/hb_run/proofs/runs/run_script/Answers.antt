@@ -1,4 +1,4 @@
-use Rattle.std.proofs.Common.{rules, ◌≡◌, refl, ◌∙◌, None, inl, inr, IsTrue, subst, false, sym}
+use Rattle.std.proofs.Common.{rules, ◌∙◌, None, IsTrue, subst, false, sym}
 use Rattle.std.proofs.lemmas.Bool.{true≢false}
 use Rattle.hb_club.specs.Fronts.{no_events}
 use Rattle.hb_run.specs.RunLines.{first_state}

@@ -1,4 +1,4 @@
-use Rattle.std.proofs.Common.{rules, ◌≡◌, ◌+◌, add-one, length, refl, subst, arith, suc}
+use Rattle.std.proofs.Common.{rules, add-one, length, refl, arith}
 use Rattle.std.proofs.lemmas.Option.{slice_get_read}
 use Rattle.hb_house.proofs.KeeperStepsLemmas.{sure_before}
 use Rattle.hb_run.proofs.LinesGoOnLemmas.{runs-sure}

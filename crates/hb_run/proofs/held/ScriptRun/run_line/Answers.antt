@@ -1,4 +1,3 @@
-use Rattle.std.proofs.Common.{refl}
 use Rattle.hb_run.proofs.TurnLinesLemmas.{all-said, all-stopped}
 use Rattle.hb_run.proofs.held.ScriptRun.run_line.Goals as goal
 
