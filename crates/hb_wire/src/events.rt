@@ -1,97 +1,156 @@
 //! Which line has an event?
 
-ghost use Rattle.std.specs.Prelude.{◌≡◌, IfOk, string_bytes};
-ghost use Rattle.serde_json.specs.View.{view};
-ghost use Rattle.hb_wire.specs.Lines.{clue_data, drawn_data, end_data, event_data, event_line, event_word as word_of};
+ghost use Rattle.std.specs.Prelude.{◌≡◌, ◌++◌, IfOk, OnOk, codes, decimal, string_bytes};
+ghost use Rattle.serde_json.specs.Written.{compact_text};
+ghost use Rattle.hb_json.specs.Values.{wholes_data};
+ghost use Rattle.hb_wire.specs.Lines.{clue_data, deck_data, drawn_data, end_data, event_line, orders_of, played_data};
 
-use crate::cards::{card_value, identities_text, identity_text};
-use crate::sets::{SET_LIMIT, members};
-use hb_json::{line_text, seat_value, wholes_value};
+use crate::spelling::{push_all, push_card, push_number, push_orders, push_seat};
 use hb_rules::{Clue, EndHow, Event, Identity};
-use serde_json::{Value, json};
 use std::alloc::{AllocError, Global};
 
-/// The word of an event's line.
-pub(crate) fn event_word(event: &Event) -> &'static str
-    ensures { result.now ≡ word_of event.now }
-{
-    match event {
-        Event::Drawn { .. } => "draw",
-        Event::Played { .. } => "play",
-        Event::Discarded { .. } => "discard",
-        Event::Clued { .. } => "clue",
-        Event::Ended { .. } => "end",
-        Event::Deck { .. } => "deck",
-    }
-}
+/// Only the line of a deck is longer, in bytes, or that of a clue that touches more cards than a
+/// hand has.
+const USUAL_LEN: usize = 64;
 
-/// A card that a seat drew or discarded.
-fn drawn_value(
-    alloc: Global,
+/// Appends a card that a seat drew or discarded.
+#[tactic(auto, unfolding(json::specs::Print::escape_byte))]
+fn push_drawn(
+    text: &mut String,
     card: Option<Identity>,
     order: u8,
     seat: u8,
-) -> Result<Value, AllocError>
-    ensures { IfOk result (λ v. view v ≡ drawn_data card order seat) }
+) -> Result<(), AllocError>
+    ensures { OnOk result (string_bytes text.new
+        ≡ string_bytes text.old ++ compact_text (drawn_data card order seat)) }
 {
-    let card = card_value(alloc, card)?;
-    json!(in alloc; {"card": card, "order": order, "seat": seat})
+    push_card(text, "{\"card\":", card)?;
+    push_number(text, ",\"order\":", u64::from(order))?;
+    push_number(text, ",\"seat\":", u64::from(seat))?;
+    text.push('}')
 }
 
-/// A clue, with the orders that it touches.
-fn clue_value(
-    alloc: Global,
+/// Appends a card that a seat played, and whether it fits.
+#[tactic(auto, unfolding(json::specs::Print::escape_byte))]
+fn push_played(
+    text: &mut String,
+    card: Identity,
+    fits: bool,
+    order: u8,
+    seat: u8,
+) -> Result<(), AllocError>
+    ensures { OnOk result (string_bytes text.new
+        ≡ string_bytes text.old ++ compact_text (played_data card fits order seat)) }
+{
+    push_card(text, "{\"card\":", Some(card))?;
+    text.push_str(if fits {
+        ",\"fits\":true"
+    } else {
+        ",\"fits\":false"
+    })?;
+    push_number(text, ",\"order\":", u64::from(order))?;
+    push_number(text, ",\"seat\":", u64::from(seat))?;
+    text.push('}')
+}
+
+/// Appends to whom a clue is given, the orders that it touches, and the closing brace.
+fn push_touched(text: &mut String, to: u8, touched: u64) -> Result<(), AllocError>
+    ensures { OnOk result (string_bytes text.new ≡ string_bytes text.old
+        ++ (codes ",\"to\":" ++ (decimal to ++ (codes ",\"touched\":"
+        ++ (compact_text (wholes_data (orders_of touched)) ++ codes "}"))))) }
+{
+    push_number(text, ",\"to\":", u64::from(to))?;
+    push_orders(text, ",\"touched\":", touched)?;
+    text.push_str("}")
+}
+
+/// Appends a clue, with the orders that it touches.
+#[tactic(auto, unfolding(json::specs::Print::escape_byte))]
+fn push_clue(
+    text: &mut String,
     from: u8,
     to: u8,
     clue: Clue,
     touched: u64,
-) -> Result<Value, AllocError>
-    ensures { IfOk result (λ v. view v ≡ clue_data from to clue touched) }
+) -> Result<(), AllocError>
+    ensures { OnOk result (string_bytes text.new
+        ≡ string_bytes text.old ++ compact_text (clue_data from to clue touched)) }
 {
-    let touched = wholes_value(alloc, &members(touched, SET_LIMIT as u8))?;
     match clue {
-        Clue::Color(index) =>
-            json!(in alloc; {"color": index, "from": from, "to": to, "touched": touched}),
-        Clue::Rank(rank) =>
-            json!(in alloc; {"from": from, "rank": rank, "to": to, "touched": touched}),
+        Clue::Color(index) => {
+            push_number(text, "{\"color\":", u64::from(index))?;
+            push_number(text, ",\"from\":", u64::from(from))?;
+            push_touched(text, to, touched)
+        }
+        Clue::Rank(rank) => {
+            push_number(text, "{\"from\":", u64::from(from))?;
+            push_number(text, ",\"rank\":", u64::from(rank))?;
+            push_touched(text, to, touched)
+        }
     }
 }
 
-/// An end.
-fn end_value(alloc: Global, how: EndHow, by: Option<u8>, score: u8) -> Result<Value, AllocError>
-    ensures { IfOk result (λ v. view v ≡ end_data how by score) }
+/// Appends an end.
+#[tactic(auto, unfolding(json::specs::Print::escape_byte))]
+fn push_end(text: &mut String, how: EndHow, by: Option<u8>, score: u8) -> Result<(), AllocError>
+    ensures { OnOk result (string_bytes text.new
+        ≡ string_bytes text.old ++ compact_text (end_data how by score)) }
 {
-    let how = how.number();
-    let by = seat_value(by);
-    json!(in alloc; {"by": by, "how": how, "score": score})
+    push_seat(text, "{\"by\":", by)?;
+    push_number(text, ",\"how\":", u64::from(how.number()))?;
+    push_number(text, ",\"score\":", u64::from(score))?;
+    text.push('}')
 }
 
-/// What the line of an event says.
-pub(crate) fn event_value(alloc: Global, event: &Event) -> Result<Value, AllocError>
-    ensures { IfOk result (λ v. view v ≡ event_data event.now) }
+/// Appends the whole deck.
+#[tactic(auto, unfolding(json::specs::Print::escape_byte))]
+fn push_deck(text: &mut String, cards: &[Identity]) -> Result<(), AllocError>
+    ensures { OnOk result (string_bytes text.new
+        ≡ string_bytes text.old ++ compact_text (deck_data cards.now)) }
+{
+    push_all(text, "{\"cards\":", cards)?;
+    text.push('}')
+}
+
+/// Appends the line of an event.
+#[tactic(auto, unfolding(hb_json::specs::Line::line))]
+fn push_event(text: &mut String, event: &Event) -> Result<(), AllocError>
+    ensures { OnOk result (string_bytes text.new ≡ string_bytes text.old ++ event_line event.now) }
 {
     match event {
-        Event::Drawn { seat, order, id } => drawn_value(alloc, *id, *order, *seat),
+        Event::Drawn { seat, order, id } => {
+            text.push_str("draw ")?;
+            push_drawn(text, *id, *order, *seat)
+        }
         Event::Played {
             seat,
             order,
             id,
             fits,
         } => {
-            let card = identity_text(alloc, *id)?;
-            json!(in alloc; {"card": card, "fits": *fits, "order": *order, "seat": *seat})
+            text.push_str("play ")?;
+            push_played(text, *id, *fits, *order, *seat)
         }
-        Event::Discarded { seat, order, id } => drawn_value(alloc, Some(*id), *order, *seat),
+        Event::Discarded { seat, order, id } => {
+            text.push_str("discard ")?;
+            push_drawn(text, Some(*id), *order, *seat)
+        }
         Event::Clued {
             from,
             to,
             clue,
             touched,
-        } => clue_value(alloc, *from, *to, *clue, *touched),
-        Event::Ended { how, by, score } => end_value(alloc, *how, *by, *score),
+        } => {
+            text.push_str("clue ")?;
+            push_clue(text, *from, *to, *clue, *touched)
+        }
+        Event::Ended { how, by, score } => {
+            text.push_str("end ")?;
+            push_end(text, *how, *by, *score)
+        }
         Event::Deck { cards } => {
-            let cards = identities_text(alloc, cards)?;
-            json!(in alloc; {"cards": cards})
+            text.push_str("deck ")?;
+            push_deck(text, cards)
         }
     }
 }
@@ -100,6 +159,7 @@ pub(crate) fn event_value(alloc: Global, event: &Event) -> Result<Value, AllocEr
 pub fn event_text(alloc: Global, event: &Event) -> Result<String, AllocError>
     ensures { IfOk result (λ s. string_bytes s ≡ event_line event.now) }
 {
-    let value = event_value(alloc, event)?;
-    line_text(alloc, event_word(event), &value)
+    let mut text = String::with_capacity(alloc, USUAL_LEN)?;
+    push_event(&mut text, event)?;
+    Ok(text)
 }

@@ -11,7 +11,7 @@ use serde_json::{Value, json};
 use std::alloc::{AllocError, Global};
 
 /// What the line that begins a game says.
-pub(crate) fn game_value(
+fn game_value(
     alloc: Global,
     variant_name: &str,
     options: &Options,

@@ -1,22 +1,19 @@
 //! Which lines are sent to a connection, and how is each of them printed?
 
-ghost use Rattle.std.specs.Prelude.{◌≡◌, IfOk};
-ghost use Rattle.serde_json.specs.View.{view};
-ghost use Rattle.hb_wire.specs.WireLine.{line_data, line_text as line_text_of, line_word as line_word_of};
+ghost use Rattle.std.specs.Prelude.{◌≡◌, IfOk, string_bytes};
+ghost use Rattle.hb_wire.specs.WireLine.{line_text as line_text_of};
 
-use crate::events::{event_value, event_word};
-use crate::game::game_value;
-use crate::hand::hand_value;
-use crate::objects::{name_value, whole_value};
-use crate::replies::{bad_value, refused_value};
-use crate::state::{State, state_value};
-use crate::stream::{clock_value, opened_value, review_value, viewer_value, watching_value};
+use crate::events::event_text;
+use crate::game::game_text;
+use crate::hand::hand_text;
+use crate::objects::{name_text, number_text};
+use crate::replies::{bad_text, refused_text};
+use crate::state::{State, state_text};
+use crate::stream::{clock_text, opened_text, review_text, viewer_text, watching_text};
 use arrayvec::ArrayVec;
 use hb_io::{Name, Text, Texts};
-use hb_json::line_text;
 use hb_request::WireError;
 use hb_rules::{Action, Event, MOST_HAND, MOST_PLAYERS, Options};
-use serde_json::{Map, Value};
 use std::alloc::{AllocError, Global};
 
 /// The most seats, as the size of a list.
@@ -148,95 +145,63 @@ pub enum WireLine {
     Closed,
 }
 
-/// The word of a line.
-fn line_word(line: &WireLine) -> &'static str
-    ensures { result.now ≡ line_word_of line.now }
+/// The text of a line, without a line feed, as a string.
+#[tactic(auto, unfolding(crate::specs::WireLine::line_text, hb_json::specs::Line::line, json::specs::Print::escape_byte))]
+fn spelled(alloc: Global, line: &WireLine) -> Result<String, AllocError>
+    ensures { IfOk result (λ s. string_bytes s ≡ line_text_of line.now) }
 {
     match line {
-        WireLine::Welcome { .. } => "welcome",
-        WireLine::Denied { .. } => "denied",
-        WireLine::Bad { .. } => "bad",
-        WireLine::Ok { .. } => "ok",
-        WireLine::Refused { .. } => "refused",
-        WireLine::Viewer { .. } => "viewer",
-        WireLine::Opened { .. } => "opened",
-        WireLine::Sat { .. } => "sat",
-        WireLine::Rose { .. } => "rose",
-        WireLine::Left { .. } => "left",
-        WireLine::Watching { .. } => "watching",
-        WireLine::Game { .. } => "game",
-        WireLine::Event(event) => event_word(event),
-        WireLine::State(_) => "state",
-        WireLine::Clock { .. } => "clock",
-        WireLine::Hand { .. } => "hand",
-        WireLine::Paused { .. } => "paused",
-        WireLine::Resumed { .. } => "resumed",
-        WireLine::Saved { .. } => "saved",
-        WireLine::Loaded { .. } => "loaded",
-        WireLine::NoGame { .. } => "nogame",
-        WireLine::Review { .. } => "review",
-        WireLine::Closed => "closed",
-    }
-}
-
-/// What a line says.
-fn line_value(alloc: Global, line: &WireLine) -> Result<Value, AllocError>
-    ensures { IfOk result (λ v. view v ≡ line_data line.now) }
-{
-    match line {
-        WireLine::Welcome { name }
-        | WireLine::Sat { name }
-        | WireLine::Rose { name }
-        | WireLine::Left { name } => name_value(alloc, "name", *name),
-        WireLine::Paused { by } | WireLine::Resumed { by } => name_value(alloc, "by", *by),
-        WireLine::Denied { code } => whole_value(alloc, "code", u64::from(*code)),
-        WireLine::Ok { number } => whole_value(alloc, "number", u64::from(*number)),
-        WireLine::Saved { id } | WireLine::Loaded { id } | WireLine::NoGame { id } => whole_value(
-            alloc, "id", *id,
-        ),
-        WireLine::Bad { error } => bad_value(alloc, *error),
+        WireLine::Welcome { name } => name_text(alloc, "welcome", "name", *name),
+        WireLine::Denied { code } => number_text(alloc, "denied {\"code\":", u64::from(*code)),
+        WireLine::Bad { error } => bad_text(alloc, *error),
+        WireLine::Ok { number } => number_text(alloc, "ok {\"number\":", u64::from(*number)),
         WireLine::Refused {
             code,
             number,
             review,
             rule,
             table,
-        } => refused_value(alloc, *code, *number, *review, *rule, *table),
-        WireLine::Viewer { role, room, table } => viewer_value(alloc, *role, *room, *table),
+        } => refused_text(alloc, *code, *number, *review, *rule, *table),
+        WireLine::Viewer { role, room, table } => viewer_text(alloc, *role, *room, *table),
         WireLine::Opened {
             host,
             variant,
             options,
-        } => opened_value(alloc, *host, variant.as_str(), options),
-        WireLine::Watching { name, shadow } => watching_value(alloc, *name, *shadow),
+        } => opened_text(alloc, *host, variant.as_str(), options),
+        WireLine::Sat { name } => name_text(alloc, "sat", "name", *name),
+        WireLine::Rose { name } => name_text(alloc, "rose", "name", *name),
+        WireLine::Left { name } => name_text(alloc, "left", "name", *name),
+        WireLine::Watching { name, shadow } => watching_text(alloc, *name, *shadow),
         WireLine::Game {
             variant,
             options,
             players,
-        } => game_value(alloc, variant.as_str(), options, players.as_slice()),
-        WireLine::Event(event) => event_value(alloc, event),
-        WireLine::State(state) => state_value(alloc, state),
+        } => game_text(alloc, variant.as_str(), options, players.as_slice()),
+        WireLine::Event(event) => event_text(alloc, event),
+        WireLine::State(state) => state_text(alloc, state),
         WireLine::Clock {
             banks,
             moment,
             running,
-        } => clock_value(alloc, banks, *moment, *running),
-        WireLine::Hand { seat, cards } => hand_value(alloc, *seat, cards),
+        } => clock_text(alloc, banks, *moment, *running),
+        WireLine::Hand { seat, cards } => hand_text(alloc, *seat, cards),
+        WireLine::Paused { by } => name_text(alloc, "paused", "by", *by),
+        WireLine::Resumed { by } => name_text(alloc, "resumed", "by", *by),
+        WireLine::Saved { id } => number_text(alloc, "saved {\"id\":", *id),
+        WireLine::Loaded { id } => number_text(alloc, "loaded {\"id\":", *id),
+        WireLine::NoGame { id } => number_text(alloc, "nogame {\"id\":", *id),
         WireLine::Review {
             action,
             hypos,
             turn,
-        } => review_value(alloc, *action, *hypos, *turn),
-        WireLine::Closed => Ok(Value::Object(Map::new(alloc))),
+        } => review_text(alloc, *action, *hypos, *turn),
+        WireLine::Closed => String::from_str(alloc, "closed {}"),
     }
 }
 
 /// The text of a line, without a line feed.
-#[tactic(auto, unfolding(crate::specs::WireLine::line_text))]
 pub fn print_line(alloc: Global, line: &WireLine) -> Result<Text, AllocError>
     ensures { IfOk result (λ text. text ≡ line_text_of line.now) }
 {
-    let value = line_value(alloc, line)?;
-    let text = line_text(alloc, line_word(line), &value)?;
-    Ok(Text::from_string(text))
+    Ok(Text::from_string(spelled(alloc, line)?))
 }

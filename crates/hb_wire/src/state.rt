@@ -1,14 +1,15 @@
 //! Which line has the state of a game?
 
 ghost use Rattle.std.specs.Prelude.{◌≡◌, IfOk, string_bytes};
-ghost use Rattle.serde_json.specs.View.{view};
-ghost use Rattle.hb_wire.specs.Lines.{state_data, state_line};
+ghost use Rattle.hb_wire.specs.Lines.{state_line};
 
+use crate::spelling::{push_number, push_seat, push_wholes};
 use arrayvec::ArrayVec;
-use hb_json::{line_text, seat_value, wholes_value};
 use hb_rules::MOST_SUITS;
-use serde_json::{Value, json};
 use std::alloc::{AllocError, Global};
+
+/// No line of a state of a game is longer, in bytes.
+const USUAL_LEN: usize = 112;
 
 /// How a game stands, as its line says it.
 #[derive(Drop, Debug)]
@@ -29,27 +30,19 @@ pub struct State {
     pub turn: u8,
 }
 
-/// What the line of a state says.
-pub(crate) fn state_value(alloc: Global, state: &State) -> Result<Value, AllocError>
-    ensures { IfOk result (λ v. view v ≡ state_data state.now) }
-{
-    let current = seat_value(state.current);
-    let stacks = wholes_value(alloc, &state.stacks)?;
-    json!(in alloc; {
-        "current": current,
-        "deck": state.deck,
-        "score": state.score,
-        "stacks": stacks,
-        "strikes": state.strikes,
-        "tokens": state.tokens,
-        "turn": state.turn
-    })
-}
-
 /// The line of a state, without a line feed.
+#[tactic(auto, unfolding(hb_json::specs::Line::line, json::specs::Print::escape_byte))]
 pub fn state_text(alloc: Global, state: &State) -> Result<String, AllocError>
     ensures { IfOk result (λ s. string_bytes s ≡ state_line state.now) }
 {
-    let value = state_value(alloc, state)?;
-    line_text(alloc, "state", &value)
+    let mut text = String::with_capacity(alloc, USUAL_LEN)?;
+    push_seat(&mut text, "state {\"current\":", state.current)?;
+    push_number(&mut text, ",\"deck\":", u64::from(state.deck))?;
+    push_number(&mut text, ",\"score\":", u64::from(state.score))?;
+    push_wholes(&mut text, ",\"stacks\":", &state.stacks)?;
+    push_number(&mut text, ",\"strikes\":", u64::from(state.strikes))?;
+    push_number(&mut text, ",\"tokens\":", u64::from(state.tokens))?;
+    push_number(&mut text, ",\"turn\":", u64::from(state.turn))?;
+    text.push('}')?;
+    Ok(text)
 }

@@ -1,0 +1,16 @@
+use Rattle.std.proofs.Common.{append-nil, arith, refl, sym}
+use Rattle.std.proofs.lemmas.Grind.{common_steps}
+use Rattle.hb_wire.proofs.ItemsLemmas.{between_all, between_more, between_nil, has_item_more}
+use Rattle.hb_wire.proofs.hand.push_sets.Goals as goal
+
+pub loop-card-init : goal.loop-card-init
+loop-card-init c = record { text = rw between_nil (sym (append-nil _)); comma = refl }
+
+pub loop-card-preserved : goal.loop-card-preserved
+loop-card-preserved c = record {
+  text = grind (arith, common_steps, between_more);
+  comma = grind (arith, common_steps, has_item_more);
+}
+
+pub returns : goal.returns
+returns c = grind (arith, common_steps, between_all)
