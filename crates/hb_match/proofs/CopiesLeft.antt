@@ -2,7 +2,7 @@
 use Rattle.std.proofs.Common.{◌≡◌, ◌≢◌, ℕ, ◌+◌, ◌-◌, ◌<◌, ⊎_elim, List, length, get_or, set, take, get_or-set_same, get_or-set_other, sym, arith}
 use Rattle.std.proofs.lemmas.Bool.{cases_eq, cases_lt}
 use Rattle.std.proofs.lemmas.List.{get_or_past}
-use Rattle.hb_match.specs.Matching.{uses, IsEnough}
+use Rattle.hb_match.specs.Matching.{IsEnough}
 use Rattle.hb_match.specs.Placing.{one, IsLeftOver}
 use Rattle.hb_match.proofs.Uses.{uses-has, uses-take_more, uses-take-le, one-same, one-other}
 
@@ -19,24 +19,26 @@ over-pos left chosen over k enough is h =
     let id : ℕ = get_or chosen k 0 in
     omega (arith, is id, enough id, uses-take_more chosen k id h, uses-take-le chosen (k + 1) id, one-same id)
 
+-- one copy of an identity is taken
+pub copy_taken : (over : List ℕ) (taken : ℕ) → 0 < get_or over taken 0
+    → (id : ℕ) → get_or (set over taken (get_or over taken 0 - 1)) id 0 + one taken id ≡ get_or over id 0
+copy_taken over taken some id =
+    let within : taken < length over =
+    ⊎_elim (λ l. l) (λ past. absurd (omega (arith, get_or_past over taken 0 past)))
+    (cases_lt taken (length over)) in
+    ⊎_elim
+    (λ (e : id ≡ taken). rw e (rw get_or-set_same (omega (arith, one-same taken))))
+    (λ (ne : id ≢ taken). rw get_or-set_other (omega (arith, one-other taken id (λ e. ne (sym e)))))
+    (cases_eq id taken)
+
 -- one more chosen card takes one copy of its identity
 pub over_less : (left chosen over : List ℕ) (k : ℕ) → IsEnough left chosen → IsLeftOver left (take k chosen) over → k < length chosen
     → IsLeftOver left (take (k + 1) chosen) (set over (get_or chosen k 0) (get_or over (get_or chosen k 0) 0 - 1))
 over_less left chosen over k enough is h id =
     let taken : ℕ = get_or chosen k 0 in
-    let some : 0 < get_or over taken 0 = over-pos left chosen over k enough is h in
-    let within : taken < length over =
-    ⊎_elim (λ l. l) (λ past. absurd (omega (arith, get_or_past over taken 0 past)))
-    (cases_lt taken (length over)) in
-    ⊎_elim
-    (λ (e : id ≡ taken). rw e (rw get_or-set_same (omega (arith, is taken, uses-take_more chosen k taken h, one-same taken))))
-    (λ (ne : id ≢ taken). rw get_or-set_other (omega (arith, is id, uses-take_more chosen k id h, one-other taken id (λ e. ne (sym e)))))
-    (cases_eq id taken)
-
--- there are enough copies still where one more is used of an identity that has one left over
-pub enough_more : (old new left : List ℕ) (over : ℕ) → uses old over < get_or left over 0
-    → ((id : ℕ) → uses new id ≡ uses old id + one over id) → IsEnough left old → IsEnough left new
-enough_more old new left over some more enough id = ⊎_elim
-    (λ (e : id ≡ over). rw e (omega (arith, more over, one-same over)))
-    (λ (ne : id ≢ over). omega (arith, more id, enough id, one-other over id (λ e. ne (sym e))))
-    (cases_eq id over)
+    omega (
+      arith,
+      is id,
+      uses-take_more chosen k id h,
+      copy_taken over taken (over-pos left chosen over k enough is h) id,
+    )

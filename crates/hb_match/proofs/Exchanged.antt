@@ -1,27 +1,12 @@
--- The identities that a card can be given where the others move on.
+-- The identities that a card can be given if the others move on.
 use Rattle.std.proofs.Common.{◌≡◌, ◌≢◌, ℕ, ◌<◌, ◌↔◌, ⊎_elim, List, length, slice_index, slice_set, get_or-set_other, get_or-set_same, refl, sym, ◌∙◌, ap, subst, arith}
 use Rattle.std.proofs.lemmas.Bool.{cases_eq}
 use Rattle.std.proofs.Math.ListN.{length-set}
 use Rattle.hb_sets.specs.Sets.{bit, Has}
-use Rattle.hb_match.specs.Matching.{uses, IsEnough, IsAssignment}
+use Rattle.hb_match.specs.Matching.{uses, IsAssignment}
+use Rattle.hb_match.specs.Exchange.{Exchanged, Gives}
 use Rattle.hb_match.specs.Placing.{one, CanMove}
 use Rattle.hb_match.proofs.Uses.{uses-set, one-same, one-other}
-
--- `other` gives the card `id`. Each other card has an identity of its mask in it, and none is used too often.
--- The cards other than this one whose identity is outside the set keep it
-pub record Exchanged (masks left chosen other : List ℕ) (free card id : ℕ) : Type 0 where
-  pub one_each : length other ≡ length masks
-  pub takes : slice_index other card ≡ id
-  pub in_mask : (k : ℕ) → k < length masks → k ≢ card → Has (slice_index masks k) (slice_index other k)
-  pub enough : IsEnough left other
-  pub stays : (k : ℕ) → k < length masks → k ≢ card → ¬ Has free (slice_index chosen k) → slice_index other k ≡ slice_index chosen k
-
--- the set has the card's own identity and those with a copy left over, and the card can be given each member of it,
--- its mask left aside
-pub record Reaches (masks left chosen : List ℕ) (card free : ℕ) : Type 0 where
-  pub own : Has free (slice_index chosen card)
-  pub spare : (id : ℕ) → uses chosen id < slice_index left id → Has free id
-  pub can : (id : ℕ) → Has free id → (other : List ℕ) × Exchanged masks left chosen other free card id
 
 -- ---- the set at the start: the card's own identity, and those with a copy left over
 
@@ -50,22 +35,12 @@ spare_exchanged masks left chosen free card id a h spare =
       stays = λ k l (ne : k ≢ card) out. rw get_or-set_other;
     }
 
--- before any exchange just the identities that can take the card are reached
-pub reaches_start : (masks left chosen : List ℕ) (card spare free : ℕ) → IsAssignment masks left chosen → card < length masks
-    → ((id : ℕ) → Has spare id ↔ (uses chosen id < slice_index left id))
-    → Has free (slice_index chosen card) → ((j : ℕ) → j ≢ slice_index chosen card → bit free j ≡ bit spare j)
-    → Reaches masks left chosen card free
-reaches_start masks left chosen card spare free a h is_spare own rest = record {
-  own = own;
-  spare = λ id p. ⊎_elim
-      (λ (e : id ≡ slice_index chosen card). rw e own)
-      (λ (ne : id ≢ slice_index chosen card). rest id ne ∙ (is_spare id).1 p)
-      (cases_eq id (slice_index chosen card));
-  can = λ id p. ⊎_elim
-      (λ (e : id ≡ slice_index chosen card). (chosen, rw e (own_exchanged masks left chosen free card a)))
-      (λ (ne : id ≢ slice_index chosen card).
-      (slice_set chosen card id, spare_exchanged masks left chosen free card id a h ((is_spare id).0 (sym (rest id ne) ∙ p))))
-      (cases_eq id (slice_index chosen card));
+-- before any exchange each card can be given what has a copy left over
+pub gives_start : (masks left chosen : List ℕ) (spare card : ℕ) → IsAssignment masks left chosen → card < length masks
+    → ((id : ℕ) → Has spare id ↔ (uses chosen id < slice_index left id)) → Gives masks left chosen spare card
+gives_start masks left chosen spare card a h is_spare = record {
+  spare = λ id. (is_spare id).1;
+  can = λ id p. (slice_set chosen card id, spare_exchanged masks left chosen spare card id a h ((is_spare id).0 p));
 }
 
 -- ---- a step: what `moved` holds joins the set, where it could take `to`, a member
@@ -111,13 +86,12 @@ uses-swapped other card moved held to id apart h l holds takes =
     )
 
 moved_exchanged : (masks left chosen other : List ℕ) (free wider card moved to : ℕ) → card < length masks → length chosen ≡ length masks
-    → Has free (slice_index chosen card) → CanMove masks chosen free moved to
+    → moved ≢ card → CanMove masks chosen free moved to
     → Has wider (slice_index chosen moved) → ((j : ℕ) → Has free j → Has wider j)
     → Exchanged masks left chosen other free card to
     → Exchanged masks left chosen (swapped other card moved (slice_index chosen moved) to) wider card (slice_index chosen moved)
-moved_exchanged masks left chosen other free wider card moved to in_range same_length own can put keeps e =
+moved_exchanged masks left chosen other free wider card moved to in_range same_length apart can put keeps e =
     let held : ℕ = slice_index chosen moved in
-    let apart : moved ≢ card = λ q. can.outside (let P : ℕ → Type 0 = λ k. Has free (slice_index chosen k) in subst P (sym q) own) in
     let h : card < length other = omega (arith, e.one_each) in
     let l : moved < length other = omega (arith, can.in_range, e.one_each) in
     let still : slice_index other moved ≡ held = e.stays moved (omega (arith, can.in_range)) apart can.outside in
@@ -144,24 +118,52 @@ kept_exchanged masks left chosen other free wider card id keeps e = record {
   stays = λ k l ne out. e.stays k l ne (λ p. out (keeps (slice_index chosen k) p));
 }
 
--- an exchange that moves a card reaches the other identities of that card
-pub reaches_more : (masks left chosen : List ℕ) (card free wider moved to : ℕ) → IsAssignment masks left chosen → card < length masks
-    → Reaches masks left chosen card free → CanMove masks chosen free moved to
-    → Has wider (slice_index chosen moved) → ((j : ℕ) → j ≢ slice_index chosen moved → bit wider j ≡ bit free j)
-    → Reaches masks left chosen card wider
-reaches_more masks left chosen card free wider moved to a h r can put rest =
-    let held : ℕ = slice_index chosen moved in
-    let keeps : (j : ℕ) → Has free j → Has wider j =
-    λ j p. ⊎_elim (λ (e : j ≡ held). rw e put) (λ (ne : j ≢ held). rest j ne ∙ p) (cases_eq j held) in
+-- the members of a set that a member is put into are its own, and that one
+pub put_keeps : (free wider held : ℕ) → Has wider held → ((j : ℕ) → j ≢ held → bit wider j ≡ bit free j)
+    → (j : ℕ) → Has free j → Has wider j
+put_keeps free wider held put rest j p = ⊎_elim (λ (e : j ≡ held). rw e put) (λ (ne : j ≢ held). rest j ne ∙ p) (cases_eq j held)
+
+-- a card can be given its own identity too
+pub gives_own : (masks left chosen : List ℕ) (free wider card : ℕ) → IsAssignment masks left chosen
+    → Has wider (slice_index chosen card) → ((j : ℕ) → j ≢ slice_index chosen card → bit wider j ≡ bit free j)
+    → Gives masks left chosen free card → Gives masks left chosen wider card
+gives_own masks left chosen free wider card a put rest g =
+    let held : ℕ = slice_index chosen card in
+    let keeps = put_keeps free wider held put rest in
     record {
-      own = keeps (slice_index chosen card) r.own;
-      spare = λ id p. keeps id (r.spare id p);
+      spare = λ id p. keeps id (g.spare id p);
       can = λ id p. ⊎_elim
-          (λ (e : id ≡ held). let f = r.can to can.inside in (
-            swapped f.0 card moved held to,
-            rw e (moved_exchanged masks left chosen f.0 free wider card moved to h a.one_each r.own can put keeps f.1),
-          ))
-          (λ (ne : id ≢ held). let f = r.can id (sym (rest id ne) ∙ p) in
+          (λ (e : id ≡ held). (chosen, rw e (own_exchanged masks left chosen wider card a)))
+          (λ (ne : id ≢ held). let f = g.can id (sym (rest id ne) ∙ p) in
+          (f.0, kept_exchanged masks left chosen f.0 free wider card id keeps f.1))
+          (cases_eq id held);
+    }
+
+moved_gives : (masks left chosen : List ℕ) (free wider card moved to : ℕ) → IsAssignment masks left chosen → card < length masks
+    → CanMove masks chosen free moved to
+    → Has wider (slice_index chosen moved) → ((j : ℕ) → Has free j → Has wider j) → Gives masks left chosen free card
+    → (other : List ℕ) × Exchanged masks left chosen other wider card (slice_index chosen moved)
+moved_gives masks left chosen free wider card moved to a h can put keeps g = ⊎_elim
+    (λ (e : moved ≡ card). (chosen, rw e (own_exchanged masks left chosen wider card a)))
+    (λ (apart : moved ≢ card). let f = g.can to can.inside in (
+      swapped f.0 card moved (slice_index chosen moved) to,
+      moved_exchanged masks left chosen f.0 free wider card moved to h a.one_each apart can put keeps f.1,
+    ))
+    (cases_eq moved card)
+
+-- what a card holds can be given if that card can move into the set
+pub gives_more : (masks left chosen : List ℕ) (free wider card moved to : ℕ) → IsAssignment masks left chosen → card < length masks
+    → CanMove masks chosen free moved to
+    → Has wider (slice_index chosen moved) → ((j : ℕ) → j ≢ slice_index chosen moved → bit wider j ≡ bit free j)
+    → Gives masks left chosen free card → Gives masks left chosen wider card
+gives_more masks left chosen free wider card moved to a h can put rest g =
+    let held : ℕ = slice_index chosen moved in
+    let keeps = put_keeps free wider held put rest in
+    record {
+      spare = λ id p. keeps id (g.spare id p);
+      can = λ id p. ⊎_elim
+          (λ (e : id ≡ held). rw e (moved_gives masks left chosen free wider card moved to a h can put keeps g))
+          (λ (ne : id ≢ held). let f = g.can id (sym (rest id ne) ∙ p) in
           (f.0, kept_exchanged masks left chosen f.0 free wider card id keeps f.1))
           (cases_eq id held);
     }

@@ -5,10 +5,10 @@ use Rattle.std.proofs.Math.Nat.{mul-le-mul_left}
 use Rattle.hb_sets.specs.Sets.{bit, Has}
 use Rattle.hb_sets.proofs.Bits.{bit-lt, bit_le}
 use Rattle.hb_match.specs.Matching.{uses, IsEnough, IsAssignment, Possible, IsPossibleSet}
+use Rattle.hb_match.specs.Exchange.{Gives}
 use Rattle.hb_match.specs.Placing.{one, Holds, IsClosed}
 use Rattle.hb_match.proofs.Uses.{one-same, one-other}
 use Rattle.hb_match.proofs.CopiesLeft.{chosen-lt}
-use Rattle.hb_match.proofs.Exchanged.{Reaches}
 use Rattle.hb_match.proofs.Sums.{sum_below, sum_below-add}
 use Rattle.hb_match.proofs.Weights.{weight, weight-le, sum_below-le-weight, weight-le-sum_below, sum_below-one_at}
 
@@ -19,7 +19,7 @@ given_holds masks left chosen a few k h =
 
 -- ---- a member of the set in the mask is possible
 
-reached_possible : (masks left chosen : List ℕ) (card free id : ℕ) → Reaches masks left chosen card free
+reached_possible : (masks left chosen : List ℕ) (card free id : ℕ) → Gives masks left chosen free card
     → Has (slice_index masks card) id → Has free id → Possible masks left card id
 reached_possible masks left chosen card free id r of_mask p =
     let f = r.can id p in (
@@ -95,14 +95,14 @@ chosen_out-lt masks left chosen other card free h closed own same a out =
     )
 
 possible_reached : (masks left chosen : List ℕ) (card free id : ℕ) → IsAssignment masks left chosen → card < length masks
-    → Reaches masks left chosen card free → IsClosed masks chosen free (length chosen)
+    → Gives masks left chosen free card → Has free (slice_index chosen card) → IsClosed masks chosen free (length chosen)
     → Possible masks left card id → Has free id
-possible_reached masks left chosen card free id given h r closed (other, a, here) = ⊎_elim (λ p. p)
+possible_reached masks left chosen card free id given h r own closed (other, a, here) = ⊎_elim (λ p. p)
     (λ (out : ¬ Has free id).
     let out' : ¬ Has free (slice_index other card) = let P : ℕ → Type 0 = λ v. ¬ Has free v in subst P (sym here) out in
     absurd (omega (
       arith,
-      chosen_out-lt masks left chosen other card free h closed r.own given.one_each a out',
+      chosen_out-lt masks left chosen other card free h closed own given.one_each a out',
       chosen_out-le masks left chosen other free r.spare a.enough,
     )))
     (cases_eq (bit free id) 1)
@@ -113,12 +113,17 @@ possible-of_mask masks left card id h (chosen, a, here) =
 
 -- what a closed search met is what the card can have
 pub met_possible : (masks left chosen : List ℕ) (card free met : ℕ) → IsAssignment masks left chosen → card < length masks
-    → Reaches masks left chosen card free → IsClosed masks chosen free (length chosen)
+    → Gives masks left chosen free card → Has free (slice_index chosen card) → IsClosed masks chosen free (length chosen)
     → ((id : ℕ) → bit met id ≡ min (bit (slice_index masks card) id) (bit free id))
     → IsPossibleSet masks left card met
-met_possible masks left chosen card free met a h r closed meets id =
+met_possible masks left chosen card free met a h r own closed meets id =
     let mask_bit = bit-lt (slice_index masks card) id in
     let free_bit = bit-lt free id in (
       λ p. reached_possible masks left chosen card free id r (omega (arith, meets id)) (omega (arith, meets id)),
-      λ p. omega (arith, meets id, possible_reached masks left chosen card free id a h r closed p, possible-of_mask masks left card id h p),
+      λ p. omega (
+        arith,
+        meets id,
+        possible_reached masks left chosen card free id a h r own closed p,
+        possible-of_mask masks left card id h p,
+      ),
     )

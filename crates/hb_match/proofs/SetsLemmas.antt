@@ -1,5 +1,5 @@
 -- The sets of possible identities: where there is no assignment they are empty, and no other set is exact.
-use Rattle.std.proofs.Common.{◌≡◌, ◌≢◌, ℕ, ◌+◌, ◌<◌, [], ◌∷◌, ◌++◌, ⊎_elim, List, length, get_or, arith}
+use Rattle.std.proofs.Common.{◌≡◌, ◌≢◌, ℕ, ◌+◌, ◌<◌, [], ◌∷◌, ◌++◌, ⊎_elim, List, length, get_or, zero, suc, refl, arith}
 use Rattle.std.proofs.lemmas.Bool.{cases_eq}
 use Rattle.std.proofs.lemmas.Grind.{common_steps}
 use Rattle.std.proofs.lemmas.List.Elements.{All-from_get_or}
@@ -38,3 +38,15 @@ pub all_none : (masks left sets : List ℕ) → length sets ≡ length masks
     → NoAssignment masks left → All (λ set. set ≡ 0) sets
 all_none masks left sets len exact none = All-from_get_or (λ set. set ≡ 0) sets 0
     (λ card h. possible_none masks left card (get_or sets card 0) (exact card (omega arith)) none)
+
+-- one empty set more
+pub empty_more : (sets : List ℕ) → ((card : ℕ) → get_or sets card 0 ≡ 0) → (card : ℕ) → get_or (sets ++ 0 ∷ []) card 0 ≡ 0
+empty_more [] empty zero = refl
+empty_more [] empty (suc card) = refl
+empty_more (set ∷ sets) empty zero = empty zero
+empty_more (set ∷ sets) empty (suc card) = empty_more sets (λ k. empty (suc k)) card
+
+-- with no assignment empty sets are exact
+pub all_empty : (masks left sets : List ℕ) → ((card : ℕ) → get_or sets card 0 ≡ 0) → NoAssignment masks left
+    → (card : ℕ) → card < length masks → IsPossibleSet masks left card (get_or sets card 0)
+all_empty masks left sets empty none card h = rw (empty card) (none_possible masks left card none)

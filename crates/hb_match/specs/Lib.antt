@@ -1,3 +1,4 @@
 pub mod Matching
 pub mod Verdict
 pub mod Placing
+pub mod Exchange

@@ -19,14 +19,14 @@
 
 ghost use Rattle.std.specs.Prelude.{◌≡◌, ℕ, ◌<◌, ◌≤◌, length, slice_index, All, EachIndex};
 ghost use Rattle.arrayvec.specs.ArrayVec.{array_vec_len};
-ghost use Rattle.hb_match.specs.Matching.{IsPossibleSet, NoAssignment};
+ghost use Rattle.hb_match.specs.Matching.{IsAssignment, IsPossibleSet, NoAssignment};
 ghost use Rattle.hb_match.specs.Verdict.{Decides};
 
 mod exchange;
 mod placing;
 
-use crate::exchange::possible_from;
-use crate::placing::{obstruction, place, spare_ids};
+use crate::exchange::{open_ids, possible_from};
+use crate::placing::{obstruction, place, take_copy, with_copies};
 use arrayvec::ArrayVec;
 
 /// How many identity numbers there are: they are 0 to 29.
@@ -60,11 +60,15 @@ pub fn assign(masks: &[u64], left: &[u8; IDENTITIES]) -> Verdict
     ensures { Decides masks.now left.now result }
 {
     let mut chosen = ArrayVec::new();
+    let mut over = *left;
+    let mut spare = with_copies(left);
     for _ in masks {
-        let spare = spare_ids(left, chosen.as_slice());
-        if let Err(closed) = place(masks, &mut chosen, spare) {
-            let (cards, ids) = obstruction(masks, chosen.as_slice(), closed);
-            return Verdict::Blocked { cards, ids };
+        match place(masks, &mut chosen, spare) {
+            Ok(id) => spare = take_copy(&mut over, spare, id),
+            Err(closed) => {
+                let (cards, ids) = obstruction(masks, chosen.as_slice(), closed);
+                return Verdict::Blocked { cards, ids };
+            }
         }
     }
     Verdict::Given(chosen)
@@ -80,7 +84,7 @@ pub fn possible(masks: &[u64], left: &[u8; IDENTITIES], card: usize) -> u64
     ensures exact { IsPossibleSet masks.now left.now card result }
     ensures none { NoAssignment masks.now left.now → result ≡ 0 }
 {
-    possible_by(&assign(masks, left), masks, left, card)
+    possible_all(masks, left)[card]
 }
 
 /// For each card, in the order of the masks, the set that `possible` answers. All sets come from
@@ -100,22 +104,48 @@ pub fn possible_all(masks: &[u64], left: &[u8; IDENTITIES]) -> ArrayVec<u64, MOS
         → slice_index result.items card ≡ set) }
     ensures none { NoAssignment masks.now left.now → All (λ set. set ≡ 0) result.items }
 {
-    let found = assign(masks, left);
+    sets_by(&assign(masks, left), masks, left)
+}
+
+/// The sets of `possible_all`, from what `assign` found.
+fn sets_by(found: &Verdict, masks: &[u64], left: &[u8; IDENTITIES]) -> ArrayVec<u64, MOST_MASKS>
+    requires few { length masks.now ≤ MOST_MASKS }
+    requires found { Decides masks.now left.now found.now }
+    ensures len { length result.items ≡ length masks.now }
+    ensures sets { (card : ℕ) → card < length masks.now
+        → IsPossibleSet masks.now left.now card (slice_index result.items card) }
+{
+    match found {
+        Verdict::Given(chosen) => sets_from(masks, left, chosen.as_slice()),
+        Verdict::Blocked { .. } => empty_sets(masks),
+    }
+}
+
+/// The sets of `possible_all`, from an assignment.
+fn sets_from(masks: &[u64], left: &[u8; IDENTITIES], chosen: &[u8]) -> ArrayVec<u64, MOST_MASKS>
+    requires few { length masks.now ≤ MOST_MASKS }
+    requires given { IsAssignment masks.now left.now chosen.now }
+    ensures len { length result.items ≡ length masks.now }
+    ensures sets { (card : ℕ) → card < length masks.now
+        → IsPossibleSet masks.now left.now card (slice_index result.items card) }
+{
+    let freed = open_ids(masks, left, chosen);
     let mut sets = ArrayVec::new();
     for card in 0..masks.len() {
-        sets.push(possible_by(&found, masks, left, card));
+        sets.push(possible_from(masks, chosen, freed, card));
     }
     sets
 }
 
-/// The set that `possible` answers, from what `assign` found.
-fn possible_by(found: &Verdict, masks: &[u64], left: &[u8; IDENTITIES], card: usize) -> u64
-    requires found { Decides masks.now left.now found.now }
-    requires in_range { card < length masks.now }
-    ensures { IsPossibleSet masks.now left.now card result }
+/// An empty set for each card.
+fn empty_sets(masks: &[u64]) -> ArrayVec<u64, MOST_MASKS>
+    requires { length masks.now ≤ MOST_MASKS }
+    ensures len { length result.items ≡ length masks.now }
+    ensures empty { (card : ℕ) → slice_index result.items card ≡ 0 }
 {
-    match found {
-        Verdict::Given(chosen) => possible_from(masks, left, chosen.as_slice(), card),
-        Verdict::Blocked { .. } => 0,
+    let mut sets = ArrayVec::new();
+    for _ in masks {
+        sets.push(0);
     }
+    sets
 }

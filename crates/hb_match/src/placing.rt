@@ -1,11 +1,11 @@
 //! How are cards placed one after the other? The next card gets an identity, and placed cards move
 //! to others if they must.
 
-ghost use Rattle.std.specs.Prelude.{◌≡◌, ℕ, ◌<◌, ◌≤◌, ◌↔◌, length, slice_index, MatchOption, MatchResult};
+ghost use Rattle.std.specs.Prelude.{◌≡◌, ℕ, ◌+◌, ◌<◌, ◌≤◌, ◌↔◌, length, slice_index, MatchOption, MatchResult};
 ghost use Rattle.arrayvec.specs.ArrayVec.{array_vec_len};
 ghost use Rattle.hb_sets.specs.Sets.{Has};
 ghost use Rattle.hb_match.specs.Matching.{uses, IsEnough};
-ghost use Rattle.hb_match.specs.Placing.{IsLeftOver, Holds, IsClosed, CanMove, Places, ShutsOut, Gathers};
+ghost use Rattle.hb_match.specs.Placing.{IsLeftOver, Holds, IsClosed, CanMove, Places, ShutsOut, Gathers, one};
 
 use crate::{IDENTITIES, MOST_MASKS};
 use arrayvec::ArrayVec;
@@ -23,18 +23,39 @@ fn left_over(left: &[u8; IDENTITIES], chosen: &[u8]) -> [u8; IDENTITIES]
     over
 }
 
-/// The identities of which a copy is left over beside the chosen ones.
-pub fn spare_ids(left: &[u8; IDENTITIES], chosen: &[u8]) -> u64
-    requires { IsEnough left.now chosen.now }
-    ensures { (id : ℕ) → Has result id ↔ (uses chosen.now id < slice_index left.now id) }
+/// The identities of which there is a copy.
+pub fn with_copies(over: &[u8; IDENTITIES]) -> u64
+    ensures { (id : ℕ) → Has result id ↔ (0 < slice_index over.now id) }
 {
     let mut ids = 0;
-    for (id, copies) in left_over(left, chosen).iter().enumerate() {
+    for (id, copies) in over.iter().enumerate() {
         if *copies > 0 {
             ids = with(ids, id as u8);
         }
     }
     ids
+}
+
+/// Takes one copy of an identity, and answers those of which there is still one.
+pub fn take_copy(over: &mut [u8; IDENTITIES], ids: u64, id: u8) -> u64
+    requires some { 0 < slice_index over.old id }
+    requires ids { (k : ℕ) → Has ids k ↔ (0 < slice_index over.old k) }
+    ensures taken { (k : ℕ) → slice_index over.new k + one id k ≡ slice_index over.old k }
+    ensures ids { (k : ℕ) → Has result k ↔ (0 < slice_index over.new k) }
+{
+    over[id as usize] -= 1;
+    if over[id as usize] > 0 {
+        return ids;
+    }
+    with_copies(over)
+}
+
+/// The identities of which a copy is left over beside the chosen ones.
+pub fn spare_ids(left: &[u8; IDENTITIES], chosen: &[u8]) -> u64
+    requires { IsEnough left.now chosen.now }
+    ensures { (id : ℕ) → Has result id ↔ (uses chosen.now id < slice_index left.now id) }
+{
+    with_copies(&left_over(left, chosen))
 }
 
 /// A placed card that holds an identity outside `free`, and an identity inside that it could take

@@ -20,7 +20,8 @@ ArePlain-with_whole key None ms h = h
 ArePlain-with_whole key (Some n) ms h = ArePlain-put 0 key _ ms (IsPlain-whole n 0) h
 
 -- the line of a refusal
-pub has_float-refused_data : (code number : ℕ) (review rule table : Option ℕ) → has_float (refused_data code number review rule table) ≡ false
+pub has_float-refused_data : (code number : ℕ) (review rule table : Option ℕ)
+    → has_float (refused_data code number review rule table) ≡ false
 has_float-refused_data code number review rule table = (IsPlain-object 0 _
     (ArePlain-with_whole (codes "table") table _
     (ArePlain-with_whole (codes "rule") rule _

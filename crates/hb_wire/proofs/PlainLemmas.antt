@@ -30,7 +30,8 @@ pub plain_identity : (id : Identity) → escape (identity_text id) ≡ identity_
 plain_identity id = by_range (in_range id) refl
   where
     by_range : (b : Bool) → in_range id ≡ b
-        → escape (if b then (97 + id.suit) ∷ (48 + id.rank) ∷ [] else codes "?") ≡ (if b then (97 + id.suit) ∷ (48 + id.rank) ∷ [] else codes "?")
+        → escape (if b then (97 + id.suit) ∷ (48 + id.rank) ∷ [] else codes "?")
+        ≡ (if b then (97 + id.suit) ∷ (48 + id.rank) ∷ [] else codes "?")
     by_range true is = plain-pair id (in_range-bounds id is)
     by_range false is = plain-unknown
 

@@ -1,7 +1,8 @@
 //! Which lines are sent to a connection, and how is each of them printed?
 
 ghost use Rattle.std.specs.Prelude.{◌≡◌, IfOk, string_bytes};
-ghost use Rattle.hb_wire.specs.WireLine.{line_text as line_text_of};
+ghost use Rattle.hb_json.specs.Line.{line as spelled_line};
+ghost use Rattle.hb_wire.specs.WireLine.{line_data, line_text as line_text_of, line_word};
 
 use crate::events::event_text;
 use crate::game::game_text;
@@ -146,9 +147,10 @@ pub enum WireLine {
 }
 
 /// The text of a line, without a line feed, as a string.
-#[tactic(auto, unfolding(crate::specs::WireLine::line_text, hb_json::specs::Line::line, json::specs::Print::escape_byte))]
+#[tactic(auto, unfolding(hb_json::specs::Line::line, json::specs::Print::escape_byte))]
 fn spelled(alloc: Global, line: &WireLine) -> Result<String, AllocError>
-    ensures { IfOk result (λ s. string_bytes s ≡ line_text_of line.now) }
+    ensures { IfOk result (λ s.
+        string_bytes s ≡ spelled_line (line_word line.now) (line_data line.now)) }
 {
     match line {
         WireLine::Welcome { name } => name_text(alloc, "welcome", "name", *name),
@@ -200,6 +202,7 @@ fn spelled(alloc: Global, line: &WireLine) -> Result<String, AllocError>
 }
 
 /// The text of a line, without a line feed.
+#[tactic(auto, unfolding(crate::specs::WireLine::line_text))]
 pub fn print_line(alloc: Global, line: &WireLine) -> Result<Text, AllocError>
     ensures { IfOk result (λ text. text ≡ line_text_of line.now) }
 {

@@ -33,7 +33,8 @@ fn field_value(alloc: Global, field: FieldName) -> Result<Value, AllocError>
 
 /// The line of a message with a wrong field.
 fn field_text(alloc: Global, field: FieldName) -> Result<String, AllocError>
-    ensures { IfOk result (λ s. string_bytes s ≡ line (codes "bad") (bad_data (error.Field field))) }
+    ensures { IfOk result (λ s. string_bytes s
+        ≡ line (codes "bad") (bad_data (error.Field field))) }
 {
     let value = field_value(alloc, field)?;
     line_text(alloc, "bad", &value)

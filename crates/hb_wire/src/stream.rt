@@ -36,7 +36,8 @@ pub(crate) fn viewer_text(
     room: u32,
     table: u32,
 ) -> Result<String, AllocError>
-    ensures { IfOk result (λ s. string_bytes s ≡ line (codes "viewer") (viewer_data role room table)) }
+    ensures { IfOk result (λ s. string_bytes s
+        ≡ line (codes "viewer") (viewer_data role room table)) }
 {
     let value = viewer_value(alloc, role, room, table)?;
     line_text(alloc, "viewer", &value)
@@ -63,7 +64,8 @@ pub(crate) fn opened_text(
     variant_name: &str,
     options: &Options,
 ) -> Result<String, AllocError>
-    ensures { IfOk result (λ s. string_bytes s ≡ line (codes "opened") (opened_data host variant_name.now options.now)) }
+    ensures { IfOk result (λ s. string_bytes s
+        ≡ line (codes "opened") (opened_data host variant_name.now options.now)) }
 {
     let value = opened_value(alloc, host, variant_name, options)?;
     line_text(alloc, "opened", &value)
@@ -84,7 +86,8 @@ pub(crate) fn watching_text(
     name: Name,
     shadow: Option<u8>,
 ) -> Result<String, AllocError>
-    ensures { IfOk result (λ s. string_bytes s ≡ line (codes "watching") (watching_data name shadow)) }
+    ensures { IfOk result (λ s. string_bytes s
+        ≡ line (codes "watching") (watching_data name shadow)) }
 {
     let value = watching_value(alloc, name, shadow)?;
     line_text(alloc, "watching", &value)
@@ -122,7 +125,8 @@ pub(crate) fn clock_text(
     moment: u64,
     running: Option<u8>,
 ) -> Result<String, AllocError>
-    ensures { IfOk result (λ s. string_bytes s ≡ line (codes "clock") (clock_data banks.now moment running)) }
+    ensures { IfOk result (λ s. string_bytes s
+        ≡ line (codes "clock") (clock_data banks.now moment running)) }
 {
     let value = clock_value(alloc, banks, moment, running)?;
     line_text(alloc, "clock", &value)
@@ -158,7 +162,8 @@ pub(crate) fn review_text(
     hypos: u16,
     turn: u16,
 ) -> Result<String, AllocError>
-    ensures { IfOk result (λ s. string_bytes s ≡ line (codes "review") (review_data action hypos turn)) }
+    ensures { IfOk result (λ s. string_bytes s
+        ≡ line (codes "review") (review_data action hypos turn)) }
 {
     let value = review_value(alloc, action, hypos, turn)?;
     line_text(alloc, "review", &value)

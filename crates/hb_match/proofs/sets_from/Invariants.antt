@@ -1,6 +1,6 @@
 use Rattle.std.proofs.Common.{◌≡◌, ℕ, ◌<◌, length, slice_index}
 use Rattle.hb_match.specs.Matching.{IsPossibleSet}
-use Rattle.hb_match.proofs.possible_all.Given as goal
+use Rattle.hb_match.proofs.sets_from.Given as goal
 
 abbrev pub invariant-loop-card : goal.invariant-loop-card
 invariant-loop-card l = record {

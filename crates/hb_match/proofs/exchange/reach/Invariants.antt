@@ -1,12 +1,12 @@
 use Rattle.std.proofs.Common.{◌-◌, ◌^◌, length}
 use Rattle.hb_match.proofs.Growth.{Grows}
-use Rattle.hb_match.proofs.exchange.possible_from.Given as goal
+use Rattle.hb_match.proofs.exchange.reach.Given as goal
 
 abbrev pub invariant-loop-before : goal.invariant-loop-before
-invariant-loop-before l = Grows l.masks l.left l.chosen l.card l.before l.free (length l.chosen)
+invariant-loop-before l = Grows l.masks l.chosen l.goal l.before l.free (length l.chosen)
 
 abbrev pub decreases-loop-before : goal.decreases-loop-before
 decreases-loop-before l = 2 ^ 64 - l.before
 
 abbrev pub invariant-loop-other : goal.invariant-loop-other
-invariant-loop-other l = Grows l.masks l.left l.chosen l.card l.before l.free l.other
+invariant-loop-other l = Grows l.masks l.chosen l.goal l.before l.free l.other
