@@ -1,0 +1,4 @@
+pub mod CountsLemmas
+pub mod MomentsLemmas
+pub mod TalkLemmas
+pub mod TellingLemmas
