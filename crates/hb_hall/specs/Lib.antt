@@ -1,0 +1,5 @@
+pub mod Entrances
+pub mod MachineTurns
+pub mod TurnFronts
+pub mod TurnReplies
+pub mod HouseHalls
