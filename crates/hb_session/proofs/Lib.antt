@@ -1,0 +1,3 @@
+pub mod FrontsLemmas
+pub mod TalkLemmas
+pub mod TurnLemmas

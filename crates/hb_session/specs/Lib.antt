@@ -1,0 +1,4 @@
+pub mod Ends
+pub mod Conversations
+pub mod Talking
+pub mod Holding
