@@ -14,14 +14,29 @@ use hb_rules::Identity;
 use itoa::Buffer;
 use std::alloc::AllocError;
 
+/// Appends a number. Most numbers of a game have one digit or two, which need no buffer.
+#[tactic(auto, using(std::proofs::lemmas::Fmt::decimal_digit))]
+fn push_digits(text: &mut String, n: u64) -> Result<(), AllocError>
+    ensures { OnOk result (string_bytes text.new ≡ string_bytes text.old ++ decimal n) }
+{
+    if n < 10 {
+        return text.push(char::from(b'0' + n as u8));
+    }
+    if n < 100 {
+        text.push(char::from(b'0' + (n / 10) as u8))?;
+        return text.push(char::from(b'0' + (n % 10) as u8));
+    }
+    let mut digits = Buffer::new();
+    text.push_str(digits.format(n))
+}
+
 /// Appends a text and behind it a number.
 pub(crate) fn push_number(text: &mut String, before: &str, n: u64) -> Result<(), AllocError>
     ensures { OnOk result (string_bytes text.new
         ≡ string_bytes text.old ++ (before.now ++ decimal n)) }
 {
     text.push_str(before)?;
-    let mut digits = Buffer::new();
-    text.push_str(digits.format(n))
+    push_digits(text, n)
 }
 
 /// Appends a text and behind it null.
