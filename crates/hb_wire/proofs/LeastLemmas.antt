@@ -1,5 +1,5 @@
 -- The members of a set, from the least one on.
-use Rattle.std.proofs.Common.{◌≡◌, ◌≢◌, ℕ, zero, suc, ◌+◌, ◌-◌, ◌*◌, ◌%◌, ◌^◌, ◌<◌, ◌≤◌, Bool, true, false, [], ◌∷◌, bit_and, w64, refl, sym, ap, ◌∙◌, ⊎_elim, arith}
+use Rattle.std.proofs.Common.{◌≡◌, ◌≢◌, ℕ, zero, suc, ◌+◌, ◌-◌, ◌*◌, ◌%◌, ◌^◌, ◌<◌, ◌≤◌, Bool, true, false, List, [], ◌∷◌, ◌++◌, length, length-append, bit_and, w64, refl, sym, ap, ◌∙◌, ⊎_elim, arith}
 use Rattle.std.specs.Prelude.{◌==◌, filter}
 use Rattle.std.specs.Int.{bit_not}
 use Rattle.std.specs.Int.Count.{count_trailing_zeros}
@@ -7,6 +7,8 @@ use Rattle.std.specs.List.{range_with_len}
 use Rattle.std.proofs.lemmas.Bool.{cases_eq}
 use Rattle.std.proofs.lemmas.Nat.{and_le_l}
 use Rattle.std.proofs.lemmas.Nat.Bits.{bit_at_and, bit_at-trailing_zeros, bit_at_clear_same, bit_at_clear_other, bit_at_ones}
+use Rattle.std.proofs.lemmas.List.FromFn.{length-range_with_len}
+use Rattle.std.proofs.lemmas.List.Sums.{count_by-le-length, length-filter}
 use Rattle.hb_sets.specs.Sets.{bit, members}
 use Rattle.hb_sets.proofs.Bits.{bit-lt, bit-zero, member-lt}
 
@@ -79,6 +81,24 @@ least-first bound set within some fits small =
           (λ j other below. bit_at_clear_other w64 set k least.0 j (omega arith) other);
       smaller = omega arith;
     }
+
+-- no more numbers are members than are below the bound
+members-fit : (bound set : ℕ) → length (members bound set) ≤ bound
+unfolding members
+members-fit bound set = omega (
+  arith,
+  length-filter (λ k. bit set k == 1) (range_with_len 0 bound),
+  count_by-le-length (λ k. bit set k == 1) (range_with_len 0 bound),
+  length-range_with_len 0 bound,
+)
+
+-- a list of members with room for all has room for the next one
+pub members-room : (bound set rest : ℕ) (list : List ℕ) → list ++ members bound rest ≡ members bound set → IsLeast bound rest
+    → length list < bound
+members-room bound set rest list all least =
+    let long : length list + length (members bound rest) ≡ length (members bound set) =
+    sym (length-append list (members bound rest)) ∙ ap length all in
+    omega (arith, ap length least.first, members-fit bound set)
 
 -- no number is in the empty set
 pub members-none : (bound : ℕ) → members bound 0 ≡ []

@@ -9,7 +9,7 @@ ghost use Rattle.hb_sets.specs.Sets.{members as members_of};
 ghost use Rattle.hb_wire.specs.Lines.{card_data, identities_text as identities_text_of, identity_text as identity_text_of, numbers_text, orders_of};
 
 use crate::cards::{push_identities, push_identity};
-use crate::sets::{SET_LIMIT, members, push_members};
+use crate::sets::{members, push_members};
 use hb_rules::Identity;
 use itoa::Buffer;
 use std::alloc::AllocError;
@@ -127,5 +127,5 @@ pub(crate) fn push_orders(text: &mut String, before: &str, set: u64) -> Result<(
     ensures { OnOk result (string_bytes text.new
         ≡ string_bytes text.old ++ (before.now ++ compact_text (wholes_data (orders_of set)))) }
 {
-    push_wholes(text, before, &members(set, SET_LIMIT as u8))
+    push_wholes(text, before, &members(set))
 }
