@@ -62,7 +62,8 @@ words_plain words (Make tables seed) h =
     subst (All IsPlain) (sym h.0) (three (codes "make") (decimal tables) (decimal seed) make
     (decimal-plain tables (omega (arith, h.2))) (decimal-plain seed h.3))
 
-formed : (words : List Text) (c : Command) → IsCommand words c → has_form words ≡ true
+-- words that ask for a command have the form of one
+pub formed : (words : List Text) (c : Command) → IsCommand words c → has_form words ≡ true
 formed words (Replay (Watch seat)) h = ap has_form h.0
 formed words (Replay (Look seat turn)) h = ap has_form h.0
 formed words (Replay Check) h = ap has_form h

@@ -5,3 +5,4 @@ pub mod ParserValues
 pub mod ParserCommands
 pub mod PartsFound
 pub mod CommandWords
+pub mod ServerWords

@@ -3,4 +3,5 @@ pub mod Commands
 pub mod Interface
 pub mod PartsOf
 pub mod Stores
+pub mod Servers
 pub mod Unpadded

@@ -34,7 +34,7 @@ fn replay_command(parts: &Parts<'_>) -> Option<ReplayCommand>
 }
 
 /// Whether a word that does not begin with `-` names a store.
-fn is_store(word: &str) -> bool
+pub(crate) fn is_store(word: &str) -> bool
     requires { IsPlain word.now }
     ensures { IsTrue result ↔ IsStore word.now }
 {

@@ -61,7 +61,7 @@ impl<'a> Store<'a> {
     ghost use Rattle.hb_words.specs.Stores.{word_of};
 
     /// The store that a word names.
-    fn named(word: &'a str) -> Self
+    pub(crate) fn named(word: &'a str) -> Self
         ensures word { word_of result ≡ word.entry.now }
         ensures memory { (result ≡ Store.Memory) ↔ (word.entry.now ≡ codes "mem") }
     {

@@ -15,7 +15,7 @@ use clap::error::ErrorKind;
 use std::alloc::{AllocError, Global};
 
 /// Whether a word does not begin with `-`.
-fn is_plain(word: &str) -> bool
+pub(crate) fn is_plain(word: &str) -> bool
     ensures { IsTrue result ↔ IsPlain word.now }
 {
     word.as_bytes().first() != Some(&b'-')
