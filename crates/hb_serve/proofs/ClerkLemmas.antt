@@ -1,6 +1,6 @@
 -- How do the lists of a hall, and what a keeper tells, come on through a call of the clerk?
-use Rattle.std.proofs.Common.{◌≡◌, ℕ, Bool, true, zero, suc, List, ◌∷◌, ◌++◌, refl, sym, subst, inl, inr, Some, None, Ok, Err}
-use Rattle.std.specs.Prelude.{Option, Result, is_some}
+use Rattle.std.proofs.Common.{◌≡◌, ℕ, Bool, true, false, zero, suc, List, ◌∷◌, ◌++◌, refl, sym, subst, inl, inr, Some, None, Ok, Err}
+use Rattle.std.specs.Prelude.{⊤, Option, Result, is_some}
 use Rattle.hb_keeper.specs.declared.errors.KeepError.{KeepError}
 use Rattle.hb_keeper.specs.declared.errors.KeepError.TheVariants as keep
 use Rattle.hb_keeper.specs.declared.fails.When.{When}
@@ -12,6 +12,7 @@ use Rattle.hb_club.specs.declared.clerks.Todo.{Todo}
 use Rattle.hb_club.specs.Fronts.{AllGoOn, ElseSame, Fronts, GoesOn, House, site_of}
 use Rattle.hb_club.specs.RoomEvents.{AsksTodo, RoomEvent, Site}
 use Rattle.hb_house.specs.declared.reports.ClerkError.{ClerkError}
+use Rattle.hb_house.specs.declared.reports.ClerkError.TheVariants as clerk
 use Rattle.hb_house.specs.declared.reports.Report.{Report}
 use Rattle.hb_house.specs.ClerkRounds.{Asks, Place, Round, Rounds, StepAt, begun}
 use Rattle.hb_house.specs.ClerkStops.{LoadStops, RoundStops, SaveStops, SettleStops}
@@ -23,8 +24,12 @@ use Rattle.hb_house.proofs.KeptRoundsLemmas.{own-rounds, own-stopped}
 use Rattle.hb_house.proofs.OwnGamesLemmas.{own-on}
 use Rattle.hb_house.proofs.RoundLemmas.{saves-sure}
 use Rattle.hb_house.proofs.RoundsLemmas.{rounds-sure}
-use Rattle.hb_session.proofs.FrontsLemmas.{all_on-trans}
-use Rattle.hb_serve.specs.Clerking.{StoppedRound, Tended, WentRound}
+use Rattle.hb_house.proofs.ToldContentLemmas.{rounds-told, stopped-told}
+use Rattle.hb_session.proofs.FrontsLemmas.{all_on-same, all_on-trans}
+use Rattle.hb_serve.specs.declared.accepts.Closing.{Closing}
+use Rattle.hb_serve.specs.declared.accepts.Closing.TheVariants as closing
+use Rattle.hb_serve.specs.Clerking.{StoppedLater, StoppedRound, Tended, WentRound}
+use Rattle.hb_serve.specs.Closings.{IsClerkWord, is_by_clerk}
 use Rattle.hb_serve.specs.Comings.{ComesTo}
 
 -- the lists
@@ -143,6 +148,7 @@ rounds-come Stands Tells alone h n f c went =
       keeper = r.keeper;
       told = r.told;
       known = known-by c.content r.keeper.content (rounds-sure ⊥ alone h went.moment (begun f c) n q r.rounds);
+      still = rounds-told alone h went.moment (begun f c) n q r.rounds;
       own = own-rounds alone h went.moment (begun f c) n q r.rounds;
     }
 
@@ -166,6 +172,7 @@ stopped-comes Stands Tells alone h n f c why stopped =
           round_stops-sure ⊥ alone (site_of h room) moment why (p.fronts.rooms room) (r.after.rooms room) p.keeper r.keeper
           p.report stopped.report r.rounds.last.step
           (rounds-sure ⊥ alone h moment (begun f c) r.done p r.rounds.rounds is));
+      still = stopped-told alone h moment why (begun f c) r.done room q r.rounds;
       own = own-stopped alone h moment why (begun f c) r.done room q r.rounds;
     }
 
@@ -174,6 +181,74 @@ pub tended-comes : (answer : Result (Unit {0}) ClerkError) (Stands : Fronts → 
     (h : House) (n : ℕ) (f : Fronts) (c : Telling) → Tended answer Stands Tells alone h n f c → ComesTo Stands Tells h f c
 tended-comes (Ok done) Stands Tells alone h n f c went = rounds-come Stands Tells alone h n f c went
 tended-comes (Err why) Stands Tells alone h n f c stopped = stopped-comes Stands Tells alone h n f c why stopped
+
+-- what is said of a clerk that stopped
+
+-- of all that is said of the lists and of the keeper behind it only the steps are kept
+steps-only : (Stands : Fronts → Type 0) (Tells : Telling → Type 0) (alone : Bool) (h : House) (n : ℕ) (f : Fronts) (c : Telling)
+    (why : ClerkError) → StoppedRound Stands Tells alone h n f c why → StoppedRound (λ g. ⊤) (λ d. ⊤) alone h n f c why
+steps-only Stands Tells alone h n f c why stopped =
+    let r = stopped.rounds in
+    record {
+      moment = stopped.moment;
+      report = stopped.report;
+      rounds = record {
+        done = r.done;
+        within = r.within;
+        after = r.after;
+        stands_for = tt;
+        keeper = r.keeper;
+        told = tt;
+        rounds = r.rounds;
+      };
+    }
+
+-- it stopped at once
+pub stopped-now : (Stands : Fronts → Type 0) (Tells : Telling → Type 0) (alone : Bool) (h : House) (n : ℕ) (f : Fronts) (c : Telling)
+    (why : ClerkError) → StoppedRound Stands Tells alone h n f c why → StoppedLater alone h n f c why
+stopped-now Stands Tells alone h n f c why stopped = record {
+  before = f;
+  on = all_on-same f;
+  keeper = c;
+  still = λ was. was;
+  own = λ own. own;
+  stopped = steps-only Stands Tells alone h n f c why stopped;
+}
+
+stopped-on_later : (Stands : Fronts → Type 0) (Tells : Telling → Type 0) (alone : Bool) (h : House) (n : ℕ) (f : Fronts) (c : Telling)
+    (why : ClerkError) (came : ComesTo Stands Tells h f c) → StoppedLater alone h n came.after came.keeper why
+    → StoppedLater alone h n f c why
+stopped-on_later Stands Tells alone h n f c why came later = record {
+  before = later.before;
+  on = all_on-trans f came.after later.before came.on later.on;
+  keeper = later.keeper;
+  still = λ was. later.still (came.still was);
+  own = λ own. later.own (came.own own);
+  stopped = later.stopped;
+}
+
+-- lists came on, and then it is the clerk's word
+pub word-later : (word : Option Closing) (Stands : Fronts → Type 0) (Tells : Telling → Type 0) (alone : Bool) (h : House) (n : ℕ)
+    (f : Fronts) (c : Telling) (came : ComesTo Stands Tells h f c) → IsClerkWord word alone h n came.after came.keeper
+    → IsClerkWord word alone h n f c
+word-later (Some (closing.StoreDiffers id)) Stands Tells alone h n f c came is =
+    stopped-on_later Stands Tells alone h n f c (clerk.KeyDiffers id) came is
+word-later (Some closing.UsedUp) Stands Tells alone h n f c came is =
+    stopped-on_later Stands Tells alone h n f c clerk.UsedUp came is
+word-later (Some closing.Closed) Stands Tells alone h n f c came is = is
+word-later (Some closing.DoorFault) Stands Tells alone h n f c came is = is
+word-later (Some closing.NoMemory) Stands Tells alone h n f c came is = is
+word-later None Stands Tells alone h n f c came is = is
+
+-- another's word says nothing of the clerk
+pub no-word : (word : Option Closing) (alone : Bool) (h : House) (n : ℕ) (f : Fronts) (c : Telling) → is_by_clerk word ≡ false
+    → IsClerkWord word alone h n f c
+no-word (Some (closing.StoreDiffers id)) alone h n f c other = absurd cc
+no-word (Some closing.UsedUp) alone h n f c other = absurd cc
+no-word (Some closing.Closed) alone h n f c other = tt
+no-word (Some closing.DoorFault) alone h n f c other = tt
+no-word (Some closing.NoMemory) alone h n f c other = tt
+no-word None alone h n f c other = tt
 
 -- the games that a keeper has of the house's run stay games that were due while lists go on
 pub own-goes_on : (h : House) (f g : Fronts) (c : Telling) → AllGoOn f g → OwnIfTold h f c → OwnIfTold h g c

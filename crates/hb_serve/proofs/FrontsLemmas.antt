@@ -28,6 +28,7 @@ comes-same Stands Tells h f c stood told = record {
   keeper = c;
   told = told;
   known = λ is. is;
+  still = λ is. is;
   own = λ is. is;
 }
 
@@ -44,6 +45,7 @@ comes-trans First Stands first Tells sure h f c one is next =
       keeper = two.keeper;
       told = two.told;
       known = λ d. one.known (two.known d);
+      still = λ was. two.still (one.still was);
       own = λ o. two.own (one.own o);
     }
 
@@ -57,6 +59,7 @@ comes-kept First Stands Tells h f c same one = record {
   keeper = one.keeper;
   told = one.told;
   known = one.known;
+  still = one.still;
   own = one.own;
 }
 

@@ -36,6 +36,7 @@ served-all First Mid Stands first TellsNow sure talk faults alone h n start f c 
       on = all_on-trans f came.after w.lists came.on w.on;
       keeper = came.keeper;
       known = came.known;
+      still = came.still;
       own = λ own. own-goes_on h came.after w.lists came.keeper w.on (came.own own);
       stubs = w.stubs;
       given_back = lists-kept w.stubs back back' back'' same w.given_back;

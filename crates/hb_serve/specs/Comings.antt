@@ -11,8 +11,8 @@ pub record JoinedLists (Stands : Fronts → Type 0) (own other : Fronts) : Type 
   pub own_on : AllGoOn own after
   pub other_on : AllGoOn other after
 
--- the lists went on from these, and so did what the keeper tells: of the house's run it still has
--- only games that were due, and each once
+-- the lists went on from these, and so did what the keeper tells: it tells its content still, and
+-- of the house's run it still has only games that were due, and each once
 pub record ComesTo (Stands : Fronts → Type 0) (Tells : Telling → Type 0) (h : House)
     (f : Fronts) (c : Telling) : Type 0 where
   pub after : Fronts
@@ -21,6 +21,7 @@ pub record ComesTo (Stands : Fronts → Type 0) (Tells : Telling → Type 0) (h 
   pub keeper : Telling
   pub told : Tells keeper
   pub known : IsTold keeper → IsTold c
+  pub still : IsTold c → IsTold keeper
   pub own : OwnIfTold h f c → OwnIfTold h after keeper
 
 -- a clock's answers are those of another from some place on

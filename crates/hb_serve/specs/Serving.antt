@@ -36,6 +36,7 @@ pub record Served {S : Type 0} (Stands : Fronts → Type 0) (Tells' : Telling �
   pub on : AllGoOn first seen
   pub keeper : Telling
   pub known : IsTold keeper → IsTold c
+  pub still : IsTold c → IsTold keeper
   pub own : OwnIfTold h first c → OwnIfTold h seen keeper
   -- a stub was given back for each job, and what is told of it is explained over these lists,
   -- unless a turn of a session was refused

@@ -9,7 +9,7 @@ ghost use Rattle.hb_edge.specs.Talk.{IsNew};
 ghost use Rattle.hb_edge.specs.Telling.{Keeps};
 ghost use Rattle.hb_house.specs.ClerkRounds.{AtEach};
 ghost use Rattle.hb_house.specs.KeeperSteps.{Tells};
-ghost use Rattle.hb_serve.specs.Closings.{is_door_fault, says_closed};
+ghost use Rattle.hb_serve.specs.Closings.{IsClerkWord, is_by_clerk, is_door_fault, says_closed};
 ghost use Rattle.hb_serve.specs.Comings.{ClonesTell, ComesTo, IsFrom};
 ghost use Rattle.hb_serve.specs.Counting.{AreRefused, CountsMore, GrowsBy, HasRoom, IsOneMore};
 ghost use Rattle.hb_serve.specs.Explanations.{IsBegun};
@@ -134,6 +134,7 @@ where
         (D.given door.old) (D.given door.new) }
     ensures closes { Counts (says_closed result) (D.closes door.old) (D.closes door.new) }
     ensures faults { Counts (is_door_fault result) (D.faults door.old) (D.faults door.new) }
+    ensures no_clerk { is_by_clerk result ≡ false }
     ensures back { Keeps (D.back door.old) (D.back door.new) }
     ensures room { HasRoom (length tasks.old.items) (D.given door.old) (D.back door.old)
         → HasRoom (length tasks.new.items) (D.given door.new) (D.back door.new) }
@@ -173,6 +174,9 @@ fn look_after<H: Hall, K: Keeper, C: Clock>(
     ensures comes { AtEach (H.stands hall.old) (Tells (K.tells keeper.old) (K.plan keeper.old))
         (K.is_sure keeper.new) (λ f c. ComesTo (H.stands hall.new)
         (Tells (K.tells keeper.new) (K.plan keeper.new)) (H.house hall.old) f c) }
+    ensures stopped { AtEach (H.stands hall.old) (Tells (K.tells keeper.old) (K.plan keeper.old))
+        (K.is_sure keeper.new) (λ f c. IsClerkWord result (H.alone hall.old) (H.house hall.old)
+        (H.count hall.old) f c) }
     ensures sure { K.is_sure keeper.new → K.is_sure keeper.old }
     ensures later { K.faults keeper.old ≤ K.faults keeper.new }
     ensures failed { IsTrue failed.new → IsTrue failed.old
@@ -229,6 +233,9 @@ where
     ensures comes { AtEach (H.stands hall.old) (Tells (K.tells keeper.old) (K.plan keeper.old))
         (K.is_sure keeper.new) (λ f c. ComesTo (H.stands hall.new)
         (Tells (K.tells keeper.new) (K.plan keeper.new)) (H.house hall.old) f c) }
+    ensures stopped { AtEach (H.stands hall.old) (Tells (K.tells keeper.old) (K.plan keeper.old))
+        (K.is_sure keeper.new) (λ f c. IsClerkWord (Some result.closing) (H.alone hall.old)
+        (H.house hall.old) (H.count hall.old) f c) }
     ensures sure { K.is_sure keeper.new → K.is_sure keeper.old }
     ensures later { K.faults keeper.old ≤ K.faults keeper.new }
     ensures failed { IsTrue result.failed → Rose (K.faults keeper.old) (K.faults keeper.new) }

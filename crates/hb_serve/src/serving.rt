@@ -5,7 +5,7 @@ ghost use Rattle.hb_io.specs.Causes.{Rose};
 ghost use Rattle.hb_edge.specs.Counts.{Counts};
 ghost use Rattle.hb_house.specs.ClerkRounds.{AtEach};
 ghost use Rattle.hb_house.specs.KeeperSteps.{Tells};
-ghost use Rattle.hb_serve.specs.Closings.{is_door_fault, says_closed};
+ghost use Rattle.hb_serve.specs.Closings.{IsClerkWord, is_door_fault, says_closed};
 ghost use Rattle.hb_serve.specs.Comings.{ClonesTell};
 ghost use Rattle.hb_serve.specs.Counting.{AreRefused, CountsMore};
 ghost use Rattle.hb_serve.specs.Serving.{ClosedBy, Served, has_last_round};
@@ -97,6 +97,10 @@ where
         D.Link.stub_talk D.Link.stub_faults (H.alone hall.old) (H.house hall.old)
         (H.count hall.old) (C.coming clock) f c result.served result.refused result.last
         (D.back door.old) (D.back door.new)) }
+    ensures stopped { AtEach (H.stands hall.old)
+        (Tells (K.tells keeper.old) (K.plan keeper.old)) (K.is_sure keeper.new)
+        (λ f c. IsClerkWord (Some result.closing) (H.alone hall.old) (H.house hall.old)
+        (H.count hall.old) f c) }
     ensures links { result.closing ≢ Closing.NoMemory
         → CountsMore (result.served + result.turned) (D.given door.old) (D.given door.new) }
     ensures closes { Counts (says_closed (Some result.closing)) (D.closes door.old)

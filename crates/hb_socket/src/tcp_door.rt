@@ -13,7 +13,8 @@ use crate::waits::{GREETING_LOOKS, GREETING_MS, WAIT_MS, is_passing, set_waits};
 use crate::{Stop, WsLink, WsStub, limits};
 use hb_edge::{Accepted, Door, LinkError};
 use std::alloc::Global;
-use std::net::{Net, TcpListener, TcpStream};
+use std::io::ErrorKind;
+use std::net::{Net, TcpListener, TcpStream, ToSocketAddrs};
 use std::time::{Clock, Duration};
 use std::{io, thread};
 use tungstenite::handshake::server::{NoCallback, start};
@@ -37,10 +38,30 @@ pub struct TcpDoor<C> {
     closes: u64,
 }
 
+/// Listens at the first address of those that a text names which can be bound. It answers
+/// [`ErrorKind::InvalidInput`] at an address that clients of other machines could reach.
+fn listen<R: Net<Listener = TcpListener, Stream = TcpStream>>(
+    rt: &R,
+    addr: &str,
+) -> io::Result<TcpListener> {
+    let mut last = io::Error::from(ErrorKind::AddrNotAvailable);
+    for addr in addr.to_socket_addrs(rt)? {
+        if !addr.ip().is_loopback() {
+            return Err(io::Error::from(ErrorKind::InvalidInput));
+        }
+        match TcpListener::bind(rt, addr) {
+            Ok(listener) => return Ok(listener),
+            Err(error) => last = error,
+        }
+    }
+    Err(last)
+}
+
 impl<C: Clock + Drop> TcpDoor<C> {
-    /// A door at an address, which is closed once a stop is asked for. It answers the error of the
-    /// system if that can't bind the address, and that memory ran out if there is none for the
-    /// door.
+    /// A door at a loopback address, which is closed once a stop is asked for. It answers
+    /// [`ErrorKind::InvalidInput`] for an address that clients of other machines could reach, the
+    /// error of the system if that can't bind the address, and that memory ran out if there is none
+    /// for the door.
     pub fn bind<R: Net<Listener = TcpListener, Stream = TcpStream>>(
         rt: &R,
         alloc: Global,
@@ -51,7 +72,7 @@ impl<C: Clock + Drop> TcpDoor<C> {
         ensures faults { IfOk result (λ door. door_faults door ≡ 0) }
         ensures closes { IfOk result (λ door. door_closes door ≡ 0) }
     {
-        let listener = TcpListener::bind(rt, addr)?;
+        let listener = listen(rt, addr)?;
         listener.set_nonblocking(true)?;
         let places = Places::new(alloc)?;
         Ok(TcpDoor {

@@ -1,8 +1,9 @@
-use Rattle.std.proofs.Common.{◌+◌, None, refl, length, arith, rules, ◌∙◌}
+use Rattle.std.proofs.Common.{◌+◌, None, Some, refl, length, arith, rules, ◌∙◌}
 use Rattle.hb_house.specs.KeeperSteps.{Telling, Tells}
+use Rattle.hb_serve.proofs.ClerkLemmas.{no-word, word-later}
 use Rattle.hb_serve.proofs.ClockLemmas.{from-first}
 use Rattle.hb_serve.proofs.CountLemmas.{counts-grow, failed-rose, keeps-trans}
-use Rattle.hb_serve.proofs.FrontsLemmas.{comes-kept, comes-trans, sure-back}
+use Rattle.hb_serve.proofs.FrontsLemmas.{comes-kept, comes-trans, sure-back, sure-before}
 use Rattle.hb_serve.proofs.accepts.accept_all.Goals as goal
 
 pub returns-in-Some-admit-clause-begun : goal.returns-in-Some-admit-clause-begun
@@ -65,6 +66,28 @@ returns-in-Some-look_after-clause-comes g c f k stood told sure =
     comes-trans (H.stands c.admit.new.hall) (H.stands c.look_after.new.hall) before
     (Tells (K.tells c.look_after.new.keeper) (K.plan c.look_after.new.keeper)) (K.is_sure c.look_after.new.keeper) house f k came
     sure (rw (c.admit.ensures.house ∙ i.house) at c.look_after.ensures.comes)
+
+pub returns-in-Some-admit-clause-stopped : goal.returns-in-Some-admit-clause-stopped
+returns-in-Some-admit-clause-stopped g c f k stood told sure =
+    let H = g.H.Hall in
+    let old = c.args.hall.now in
+    no-word (Some c.in-Some-admit.closing) (H.alone old) (H.house old) (H.count old) f k c.in-Some-admit.ensures.no_clerk
+
+pub returns-in-Some-look_after-clause-stopped : goal.returns-in-Some-look_after-clause-stopped
+returns-in-Some-look_after-clause-stopped g c f k stood told sure =
+    let H = g.H.Hall in
+    let K = g.K.Keeper in
+    let i = c.loop.invariant in
+    let old = c.args.hall.now in
+    let before = Tells (K.tells c.loop.keeper) (K.plan c.loop.keeper) in
+    let came = comes-kept (H.stands c.loop.hall) (H.stands c.admit.new.hall) before (H.house old) f k c.admit.ensures.same
+    (i.comes f k stood told (sure-back k (K.is_sure c.look_after.new.keeper) (K.is_sure c.loop.keeper)
+    c.look_after.ensures.sure sure)) in
+    let stopped = rw (c.admit.ensures.alone ∙ i.alone, c.admit.ensures.house ∙ i.house, c.admit.ensures.count ∙ i.count) at
+    c.in-Some-look_after.ensures.stopped in
+    word-later (Some c.in-Some-look_after.closing) (H.stands c.admit.new.hall) before (H.alone old) (H.house old) (H.count old) f k came
+    (stopped came.after came.keeper came.stands_for came.told
+    (sure-before (K.is_sure c.look_after.new.keeper) k came.keeper came.known sure))
 
 pub loop-preserved : goal.loop-preserved
 loop-preserved g c =

@@ -30,3 +30,10 @@ returns-clause-sessions g c clones f k stood told sure =
     (K.is_sure last.new.keeper) L.stub_talk L.stub_faults (H.alone old) (H.house old) (H.count old) (coming c.args.clock) f k
     (length all.new.tasks.items) waits.result last.result (D.back c.args.door.now) (D.back all.new.door) (D.back waits.new.door)
     came (held came.after (coming c.args.clock) came.stands_for (accepted.begun f stood clones)) accepted.back sure closed)
+
+pub returns-clause-stopped : goal.returns-clause-stopped
+returns-clause-stopped g c f k stood told sure =
+    let K = g.K.Keeper in
+    let all = c.accept_all-arrivals in
+    let last = c.last_round-last in
+    all.ensures.stopped f k stood told (sure-back k (K.is_sure last.new.keeper) (K.is_sure all.new.keeper) last.ensures.sure sure)
