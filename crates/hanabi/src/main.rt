@@ -1,22 +1,29 @@
 //! What does the program run on? The words of its command line, the real input and outputs, and the
-//! keeper of the store that the words name. All that it does with them is [`hb_cli::run`].
+//! keeper of the store that the words name. All that it does with them is [`hb_cli::run`], or
+//! [`hb_server::serve`] if the words ask for a server.
 #![tactic(auto)]
 
+mod servers;
 mod stores;
 
+use crate::servers::served;
 use crate::stores::refused;
 use hb_cli::{Status, report_no_memory, run};
 use hb_io::{StdSink, StdSource};
 use hb_keeper::{Fails, Keeper, KeeperMemory};
 use hb_sqlite::KeeperSql;
-use hb_words::{Store, command};
+use hb_words::{Store, command, server_command};
 use std::alloc::AllocError;
+use std::clone::Clone;
 use std::env;
 use std::io::ErrorKind;
+use std::net::{Net, TcpListener, TcpStream};
 use std::process::ExitCode;
+use std::sync::Wait;
+use std::thread::Threads;
 
 fn main(rt: HostRuntime) -> ExitCode {
-    let status = match executed(&rt) {
+    let status = match executed(&rt, &rt) {
         Ok(status) => status,
         Err(_) => report_no_memory(&mut StdSink::new(rt.stderr())),
     };
@@ -33,11 +40,24 @@ fn arguments(rt: &HostRuntime) -> Result<Vec<String>, AllocError> {
     }
 }
 
-fn executed(rt: &HostRuntime) -> Result<Status, AllocError> {
+/// Does what the words ask for. A server waits and makes threads and links by `server`.
+fn executed<W>(rt: &HostRuntime, server: &W) -> Result<Status, AllocError>
+where
+    W: Wait
+        + Threads
+        + Net<Listener = TcpListener, Stream = TcpStream>
+        + Clone
+        + Send
+        + Drop
+        + 'static,
+{
     let arguments = arguments(rt)?;
     let mut words = Vec::new(rt.alloc());
     for word in &arguments {
         words.push(word.as_str())?;
+    }
+    if let Some(command) = server_command(&words) {
+        return served(*rt, server, &words, &command);
     }
     match command(rt.alloc(), &words)? {
         Some(command) => match command.store() {

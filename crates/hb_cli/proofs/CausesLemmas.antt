@@ -138,12 +138,16 @@ module _ (words : List (List ℕ)) (bytes : List ℕ) where
   one stop.KeeperFault y gx gy u v = absurd gx
   one stop.NoMemory y gx gy u v = absurd gx
   one (stop.StoreDiffers id) y gx gy u v = absurd gx
+  one stop.DoorFault y gx gy u v = absurd gx
+  one stop.DiceFault y gx gy u v = absurd gx
   one stop.UsedUp y gx gy u v = absurd gx
   one x stop.ReadFault gx gy u v = absurd gy
   one x stop.WriteFault gx gy u v = absurd gy
   one x stop.KeeperFault gx gy u v = absurd gy
   one x stop.NoMemory gx gy u v = absurd gy
   one x (stop.StoreDiffers id) gx gy u v = absurd gy
+  one x stop.DoorFault gx gy u v = absurd gy
+  one x stop.DiceFault gx gy u v = absurd gy
   one x stop.UsedUp gx gy u v = absurd gy
 
   idle : (why : Stop) → IsGiven why → IsStop a why → HasWork a → ⊥
@@ -180,6 +184,8 @@ module _ (words : List (List ℕ)) (bytes : List ℕ) where
   idle stop.KeeperFault given u work = given
   idle stop.NoMemory given u work = given
   idle (stop.StoreDiffers id) given u work = given
+  idle stop.DoorFault given u work = given
+  idle stop.DiceFault given u work = given
   idle stop.UsedUp given u work = given
 
 -- if words and an input give a cause why there is nothing to do, there is no work for them

@@ -34,7 +34,7 @@ next-run x run is = by (nat_lt x.last_run greatest) is
     by false at = let bad : ◌≡◌ {A = Result ℕ KeepError} (Ok run) (Err keep.UsedUp) = at in absurd cc
 
 -- what the keeper contains behind it
-begun-content : (c : Telling) (x : Content) → c.content ≡ Some x → (b : Begun c)
+pub begun-content : (c : Telling) (x : Content) → c.content ≡ Some x → (b : Begun c)
     → (b.run ≡ x.last_run + 1) × (b.keeper.content ≡ Some (open_run_on x).1)
 begun-content c x told b =
     let worked : WorkedOn open_run_on (Some x) (Ok b.run) b.keeper.content =

@@ -65,6 +65,8 @@ status_of-Usage stop.KeeperFault is = cc
 status_of-Usage stop.NoSuchView is = cc
 status_of-Usage stop.NoMemory is = cc
 status_of-Usage (stop.StoreDiffers id) is = cc
+status_of-Usage stop.DoorFault is = cc
+status_of-Usage stop.DiceFault is = cc
 status_of-Usage stop.UsedUp is = cc
 
 -- `ReadFault` is the status of no other cause
@@ -79,6 +81,8 @@ status_of-ReadFault stop.KeeperFault is = cc
 status_of-ReadFault stop.NoSuchView is = cc
 status_of-ReadFault stop.NoMemory is = cc
 status_of-ReadFault (stop.StoreDiffers id) is = cc
+status_of-ReadFault stop.DoorFault is = cc
+status_of-ReadFault stop.DiceFault is = cc
 status_of-ReadFault stop.UsedUp is = cc
 
 -- `KeeperFault` is the status of no other cause
@@ -93,6 +97,8 @@ status_of-KeeperFault stop.KeeperFault is = refl
 status_of-KeeperFault stop.NoSuchView is = cc
 status_of-KeeperFault stop.NoMemory is = cc
 status_of-KeeperFault (stop.StoreDiffers id) is = cc
+status_of-KeeperFault stop.DoorFault is = cc
+status_of-KeeperFault stop.DiceFault is = cc
 status_of-KeeperFault stop.UsedUp is = cc
 
 -- `StoreDiffers` is the status of no other cause
@@ -107,6 +113,8 @@ status_of-StoreDiffers stop.KeeperFault is = absurd cc
 status_of-StoreDiffers stop.NoSuchView is = absurd cc
 status_of-StoreDiffers stop.NoMemory is = absurd cc
 status_of-StoreDiffers (stop.StoreDiffers id) is = (id, refl)
+status_of-StoreDiffers stop.DoorFault is = absurd cc
+status_of-StoreDiffers stop.DiceFault is = absurd cc
 status_of-StoreDiffers stop.UsedUp is = absurd cc
 
 refusal_refused : (e : ReplayError) → IsRefused (refusal_status e)
@@ -132,6 +140,8 @@ other_refused stop.KeeperFault other = tt
 other_refused stop.NoSuchView other = tt
 other_refused stop.NoMemory other = tt
 other_refused (stop.StoreDiffers id) other = tt
+other_refused stop.DoorFault other = tt
+other_refused stop.DiceFault other = tt
 other_refused stop.UsedUp other = tt
 
 -- a cause is the output's, or it is not
@@ -146,6 +156,8 @@ is_output stop.KeeperFault = inr (λ e. cc)
 is_output stop.NoSuchView = inr (λ e. cc)
 is_output stop.NoMemory = inr (λ e. cc)
 is_output (stop.StoreDiffers id) = inr (λ e. cc)
+is_output stop.DoorFault = inr (λ e. cc)
+is_output stop.DiceFault = inr (λ e. cc)
 is_output stop.UsedUp = inr (λ e. cc)
 
 -- statuses that are none of two others

@@ -90,6 +90,8 @@ module _ (a : Asked) (Was Left : Telling → Type 0) (sure : Type 0) (out : Sent
   stops_by stop.NoSuchView is nothing = (is, nothing)
   stops_by stop.NoMemory is nothing = inr nothing
   stops_by (stop.StoreDiffers id) is nothing = absurd is
+  stops_by stop.DoorFault is nothing = absurd is
+  stops_by stop.DiceFault is nothing = absurd is
   stops_by stop.UsedUp is nothing = absurd is
 
   -- a replay's text failed to be written, or there was none

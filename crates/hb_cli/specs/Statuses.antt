@@ -31,6 +31,8 @@ code_of status.KeeperFault = 9
 code_of status.NoSuchView = 10
 code_of status.NoMemory = 11
 code_of status.StoreDiffers = 12
+code_of status.DoorFault = 13
+code_of status.DiceFault = 14
 code_of status.UsedUp = 15
 code_of status.StoreVersion = 17
 
@@ -48,6 +50,8 @@ IsSilent status.WriteFault = ⊥
 IsSilent status.KeeperFault = ⊥
 IsSilent status.NoMemory = ⊥
 IsSilent status.StoreDiffers = ⊥
+IsSilent status.DoorFault = ⊥
+IsSilent status.DiceFault = ⊥
 IsSilent status.UsedUp = ⊥
 IsSilent _ = ⊤
 
@@ -58,6 +62,8 @@ HasRead status.ReadFault = ⊥
 HasRead status.WriteFault = ⊥
 HasRead status.TooLong = ⊥
 HasRead status.NoMemory = ⊥
+HasRead status.DoorFault = ⊥
+HasRead status.DiceFault = ⊥
 HasRead status.StoreVersion = ⊥
 HasRead _ = ⊤
 
@@ -80,6 +86,8 @@ status_of stop.KeeperFault = status.KeeperFault
 status_of stop.NoSuchView = status.NoSuchView
 status_of stop.NoMemory = status.NoMemory
 status_of (stop.StoreDiffers id) = status.StoreDiffers
+status_of stop.DoorFault = status.DoorFault
+status_of stop.DiceFault = status.DiceFault
 status_of stop.UsedUp = status.UsedUp
 
 -- the status of work that came to an end, `true` if the keeper met a fault at a line of the clerk,
@@ -117,8 +125,8 @@ stop_of_run ends.NoMemory = stop.NoMemory
 
 -- the line of a cause
 abbrev pub line_of : Stop → List ℕ
-line_of stop.Usage = codes
-    "usage\nwatch SEAT\nlook SEAT TURN\ncheck\ncopy\nscript STORE\ngames STORE NAME\nmake N SEED\n"
+line_of stop.Usage = codes "usage\nwatch SEAT\nlook SEAT TURN\ncheck\ncopy\nscript STORE\n"
+    ++ codes "games STORE NAME\nmake N SEED\nserve ADDR ROOMS STORE\n"
 line_of stop.ReadFault = codes "read fault\n"
 line_of stop.WriteFault = codes "write fault\n"
 line_of stop.TooLong = codes "input too long\n"
@@ -128,4 +136,6 @@ line_of stop.KeeperFault = codes "keeper fault\n"
 line_of stop.NoSuchView = codes "no such view\n"
 line_of stop.NoMemory = codes "no memory\n"
 line_of (stop.StoreDiffers id) = codes "store differs " ++ (decimal id ++ codes "\n")
+line_of stop.DoorFault = codes "door fault\n"
+line_of stop.DiceFault = codes "dice fault\n"
 line_of stop.UsedUp = codes "numbers used up\n"

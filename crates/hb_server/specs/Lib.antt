@@ -1,0 +1,4 @@
+pub mod Houses
+pub mod Counters
+pub mod Deeds
+pub mod Ends
